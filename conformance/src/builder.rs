@@ -1,0 +1,297 @@
+//! A builder of case files that names formulas and lays out offsets and spans.
+//!
+//! Every field is open, so that a test can damage what it likes before `to_bytes`. An unknown name
+//! is a slip in the test and panics.
+
+use crate::checker::{Term, ABSENT, HEADER_BYTES};
+
+/// The numbers of the sixteen rules.
+pub const SUPPOSE: u16 = 0;
+pub const CONDITION: u16 = 1;
+pub const SEEN: u16 = 2;
+pub const SAYS: u16 = 3;
+pub const REFINE: u16 = 4;
+pub const OWNER: u16 = 5;
+pub const AND: u16 = 6;
+pub const LEFT: u16 = 7;
+pub const RIGHT: u16 = 8;
+pub const IMPLIES_FROM_LABEL: u16 = 9;
+pub const IMPLIED: u16 = 10;
+pub const OBLIGES_FROM_LABEL: u16 = 11;
+pub const BY_OBLIGATION: u16 = 12;
+pub const BY_LABEL: u16 = 13;
+pub const FOR_ALL: u16 = 14;
+pub const INSTANCE: u16 = 15;
+
+pub fn data(index: u16) -> u16 {
+    Term::DATA.start() + index
+}
+
+pub fn agent_parameter(index: u16) -> u16 {
+    Term::AGENT_PARAMETERS.start() + index
+}
+
+pub fn data_parameter(index: u16) -> u16 {
+    Term::DATA_PARAMETERS.start() + index
+}
+
+pub fn agent_variable(index: u16) -> u16 {
+    Term::AGENT_VARIABLES.start() + index
+}
+
+pub fn data_variable(index: u16) -> u16 {
+    Term::DATA_VARIABLES.start() + index
+}
+
+/// A formula to add: its fields are terms, or names of formulas already there.
+pub struct Sketch {
+    kind: u8,
+    code: u8,
+    fields: Vec<Field>,
+}
+
+enum Field {
+    Is(u16),
+    Named(&'static str),
+}
+
+use Field::{Is, Named};
+
+fn sketch(kind: u8, code: u8, fields: Vec<Field>) -> Sketch {
+    Sketch { kind, code, fields }
+}
+
+pub fn predicate(code: u8, terms: &[u16]) -> Sketch {
+    sketch(0, code, terms.iter().map(|term| Is(*term)).collect())
+}
+
+pub fn owns(x: u16, y: u16) -> Sketch {
+    sketch(1, 0, vec![Is(x), Is(y)])
+}
+
+pub fn says(x: u16, policy: &'static str, z: u16) -> Sketch {
+    sketch(2, 0, vec![Is(x), Named(policy), Is(z)])
+}
+
+pub fn and(left: &'static str, right: &'static str) -> Sketch {
+    sketch(3, 0, vec![Named(left), Named(right)])
+}
+
+pub fn for_all_agents(body: &'static str) -> Sketch {
+    sketch(4, 0, vec![Named(body)])
+}
+
+pub fn for_all_data(body: &'static str) -> Sketch {
+    sketch(4, 1, vec![Named(body)])
+}
+
+pub fn implies(from: &'static str, to: &'static str) -> Sketch {
+    sketch(5, 0, vec![Named(from), Named(to)])
+}
+
+pub fn each_use(action: &'static str, policy: &'static str) -> Sketch {
+    sketch(6, 0, vec![Named(action), Named(policy)])
+}
+
+pub fn once(action: &'static str, policy: &'static str) -> Sketch {
+    sketch(7, 0, vec![Named(action), Named(policy)])
+}
+
+pub fn communicates(x: u16, policy: &'static str, z: u16) -> Sketch {
+    sketch(8, 0, vec![Is(x), Named(policy), Is(z)])
+}
+
+pub fn creates(x: u16, y: u16) -> Sketch {
+    sketch(9, 0, vec![Is(x), Is(y)])
+}
+
+/// The first term is the acting agent.
+pub fn user_action(code: u8, terms: &[u16]) -> Sketch {
+    sketch(10, code, terms.iter().map(|term| Is(*term)).collect())
+}
+
+#[derive(Clone)]
+pub struct FormulaRow {
+    pub kind: u8,
+    pub code: u8,
+    pub fields: [u16; 3],
+}
+
+/// A span given here stands in the file instead of the one due.
+#[derive(Clone)]
+pub struct LogRow {
+    pub action: u16,
+    pub observers: Vec<u16>,
+    pub span: Option<(u16, u16)>,
+}
+
+#[derive(Clone)]
+pub struct Step {
+    pub rule: u16,
+    pub formula: u16,
+    pub argument: u16,
+    pub premises: Vec<u16>,
+    pub span: Option<(u16, u16)>,
+}
+
+/// A case file in the making. A header pair given here stands in the file instead of the one due.
+#[derive(Clone)]
+pub struct CaseFile {
+    pub agent: u16,
+    pub action: u16,
+    pub header: [Option<(u16, u16)>; 8],
+    pub names: Vec<&'static str>,
+    pub formulas: Vec<FormulaRow>,
+    pub rows: Vec<LogRow>,
+    pub conditions: Vec<u16>,
+    pub obligations: Vec<(u16, u16)>,
+    pub labels: Vec<(u16, u16)>,
+    pub steps: Vec<Step>,
+}
+
+impl CaseFile {
+    /// A case of this agent, with nothing in it and no audited action yet.
+    pub fn new(agent: u16) -> CaseFile {
+        CaseFile {
+            agent,
+            action: ABSENT,
+            header: [None; 8],
+            names: Vec::new(),
+            formulas: Vec::new(),
+            rows: Vec::new(),
+            conditions: Vec::new(),
+            obligations: Vec::new(),
+            labels: Vec::new(),
+            steps: Vec::new(),
+        }
+    }
+
+    /// The number of the formula of this name.
+    pub fn number(&self, name: &str) -> u16 {
+        let found = self.names.iter().position(|known| *known == name);
+        found.unwrap_or_else(|| panic!("no formula is named {name}")) as u16
+    }
+
+    /// Adds a formula.
+    pub fn formula(mut self, name: &'static str, sketch: Sketch) -> CaseFile {
+        let mut fields = [ABSENT; 3];
+        for (field, value) in fields.iter_mut().zip(&sketch.fields) {
+            *field = match value {
+                Is(term) => *term,
+                Named(name) => self.number(name),
+            };
+        }
+        let (kind, code) = (sketch.kind, sketch.code);
+        self.formulas.push(FormulaRow { kind, code, fields });
+        self.names.push(name);
+        self
+    }
+
+    /// Sets the audited action.
+    pub fn audits(mut self, action: &str) -> CaseFile {
+        self.action = self.number(action);
+        self
+    }
+
+    pub fn row(mut self, action: &str, observers: &[u16]) -> CaseFile {
+        let action = self.number(action);
+        let observers = observers.to_vec();
+        self.rows.push(LogRow { action, observers, span: None });
+        self
+    }
+
+    pub fn condition(mut self, predicate: &str) -> CaseFile {
+        self.conditions.push(self.number(predicate));
+        self
+    }
+
+    pub fn obligation(mut self, mark: u16, action: &str) -> CaseFile {
+        self.obligations.push((mark, self.number(action)));
+        self
+    }
+
+    pub fn label(mut self, mark: u16, formula: &str) -> CaseFile {
+        self.labels.push((mark, self.number(formula)));
+        self
+    }
+
+    pub fn step(mut self, rule: u16, formula: &str, argument: u16, premises: &[u16]) -> CaseFile {
+        let formula = self.number(formula);
+        let premises = premises.to_vec();
+        self.steps.push(Step { rule, formula, argument, premises, span: None });
+        self
+    }
+
+    /// The case with a change made by hand.
+    pub fn change(mut self, change: impl FnOnce(&mut CaseFile)) -> CaseFile {
+        change(&mut self);
+        self
+    }
+
+    /// The eight parts, by place.
+    fn parts(&self) -> [Vec<u8>; 8] {
+        let pairs =
+            |records: &[(u16, u16)]| bytes(records.iter().flat_map(|record| [record.0, record.1]));
+        let (rows, observers) = self.log_parts();
+        let (steps, premises) = self.step_parts();
+        [
+            self.formula_part(),
+            rows,
+            observers,
+            bytes(self.conditions.iter().copied()),
+            pairs(&self.obligations),
+            pairs(&self.labels),
+            steps,
+            premises,
+        ]
+    }
+
+    pub fn formula_part(&self) -> Vec<u8> {
+        let mut part = Vec::new();
+        for row in &self.formulas {
+            part.extend([row.kind, row.code]);
+            part.extend(bytes(row.fields));
+        }
+        part
+    }
+
+    fn log_parts(&self) -> (Vec<u8>, Vec<u8>) {
+        let (mut records, mut observers) = (Vec::new(), Vec::new());
+        for row in &self.rows {
+            let due = (observers.len() as u16, row.observers.len() as u16);
+            let (offset, count) = row.span.unwrap_or(due);
+            records.extend([row.action, offset, count]);
+            observers.extend(&row.observers);
+        }
+        (bytes(records), bytes(observers))
+    }
+
+    fn step_parts(&self) -> (Vec<u8>, Vec<u8>) {
+        let (mut records, mut premises) = (Vec::new(), Vec::new());
+        for step in &self.steps {
+            let due = (premises.len() as u16, step.premises.len() as u16);
+            let (offset, count) = step.span.unwrap_or(due);
+            records.extend([step.rule, step.formula, step.argument, offset, count]);
+            premises.extend(&step.premises);
+        }
+        (bytes(records), bytes(premises))
+    }
+
+    pub fn to_bytes(&self) -> Vec<u8> {
+        let parts = self.parts();
+        let mut file = bytes([self.agent, self.action]);
+        let mut offset = HEADER_BYTES;
+        for (part, given) in parts.iter().zip(self.header) {
+            let pair = given.unwrap_or((offset as u16, part.len() as u16));
+            file.extend(bytes([pair.0, pair.1]));
+            offset += part.len();
+        }
+        file.extend(parts.concat());
+        file
+    }
+}
+
+/// Numbers as the file has them, low byte first.
+fn bytes(numbers: impl IntoIterator<Item = u16>) -> Vec<u8> {
+    numbers.into_iter().flat_map(u16::to_le_bytes).collect()
+}

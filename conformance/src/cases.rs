@@ -1,0 +1,197 @@
+//! Document 01's examples: rows 1 to 23 of its table, and the desk cases.
+
+use crate::builder::*;
+use crate::checker::{Verdict, ABSENT};
+use crate::vectors::Vector;
+
+/// The entries the program lends.
+pub const ROOM: usize = 1_088;
+
+/// Every example of document 01, by name.
+pub fn examples() -> Vec<Vector> {
+    let mut all = admission_rows();
+    all.extend(step_rows());
+    all.extend(end_rows());
+    all.extend(desk_cases());
+    all
+}
+
+/// Rows 1 to 11 of the table.
+fn admission_rows() -> Vec<Vector> {
+    let empty = Vector { file: Vec::new(), ..refused("row 1: empty", grant(), 1, 0) };
+    let first_offset = grant().change(|case| case.header[0] = Some((35, 40)));
+    let row_0_code = grant().change(|case| case.formulas[0].code = 1);
+    let row_0_again = grant().formula("created again", creates(0, data(0)));
+    let observers = grant().change(|case| case.rows[0].observers = vec![0, 0]);
+    let condition = grant().condition("0 owns");
+    let obligation = grant().obligation(3, "0 creates");
+    let label = grant().label(0, "0 creates");
+    let action = grant().audits("0 owns");
+    let no_steps = grant().change(|case| case.steps.clear());
+    let agent = grant().change(|case| case.agent = 1);
+    vec![
+        empty,
+        refused("row 2: Grant, first offset 35", first_offset, 2, 0),
+        refused("row 3: Grant, row 0 code 1", row_0_code, 3, 0),
+        refused("row 4: Grant, row 0 again as 5", row_0_again, 4, 5),
+        refused("row 5: Grant, observers 0, 0", observers, 5, 0),
+        refused("row 6: Grant, condition 1", condition, 6, 0),
+        refused("row 7: Grant, an obligation of mark 3", obligation, 7, 0),
+        refused("row 8: Grant, label mark 0, formula 0", label, 8, 0),
+        refused("row 9: Grant, action 1", action, 9, 0),
+        refused("row 10: Grant, no steps, no premises", no_steps, 10, 0),
+        refused("row 11: Grant, agent 1", agent, 11, 0),
+    ]
+}
+
+/// Rows 12 to 19 of the table.
+fn step_rows() -> Vec<Vector> {
+    let rule = grant().change(|case| case.steps[0].rule = 16);
+    let premise = grant().change(|case| case.steps[1].premises = vec![1]);
+    let absent = grant().change(|case| case.steps[0].argument = ABSENT);
+    let argument = grant().change(|case| case.steps[0].argument = 1);
+    let observer = grant().change(|case| case.rows[0].observers = vec![1]);
+    let formula = grant().change(|case| case.steps[0].formula = 2);
+    vec![
+        refused("row 12: Grant, first rule 16", rule, 12, 0),
+        refused("row 13: Grant, premise 1", premise, 13, 1),
+        refused("row 14: Grant, first argument 65535", absent, 14, 0),
+        refused("row 15: Grant, first argument 1", argument, 15, 0),
+        refused("row 16: Grant, observer 1", observer, 16, 0),
+        refused("row 17: Twice", twice(), 17, 5),
+        refused("row 18: Grant, first formula 2", formula, 18, 0),
+        refused("row 19: for all by a supposed parameter", generalised(), 19, 1),
+    ]
+}
+
+/// Rows 20 to 23 of the table.
+fn end_rows() -> Vec<Vector> {
+    let doubled = grant().change(|case| case.steps.insert(1, case.steps[0].clone()));
+    let seen_alone = grant().change(|case| case.steps.truncate(1));
+    let no_room = Vector { room: 0, ..refused("row 23: Grant, room 0", grant(), 23, 1) };
+    vec![
+        refused("row 20: Grant, seen step doubled", doubled, 20, 1),
+        refused("row 21: one step supposing what is owed", supposed(), 21, 0),
+        refused("row 22: Grant, seen step alone", seen_alone, 22, 0),
+        no_room,
+    ]
+}
+
+/// The desk cases that are not in the table.
+fn desk_cases() -> Vec<Vector> {
+    let creator = grant().audits("0 creates").change(|case| case.steps.clear());
+    let absent = visit().change(|case| case.conditions = vec![ABSENT]);
+    let no_conditions = visit().change(|case| case.conditions.clear());
+    let second = twice().obligation(1, "action 3").change(|case| case.steps[5].argument = 1);
+    let once = twice().change(|case| {
+        case.formulas[2].kind = 7;
+        case.obligations[0].0 = 2;
+    });
+    vec![
+        passed("Grant", grant(), &[], &[0]),
+        vector("Creator", creator, Verdict::NoneOwed),
+        passed("Visit", visit(), &[], &[0]),
+        refused("Visit, condition absent", absent, 14, 2),
+        refused("Visit, no conditions", no_conditions, 15, 2),
+        passed("Twice, a second obligation", second, &[0, 1], &[0]),
+        passed("Twice, kind 7 and mark 2", once, &[0], &[0]),
+    ]
+}
+
+/// Agent 0 created data 0 and grants agent 1 its use.
+pub fn grant() -> CaseFile {
+    CaseFile::new(0)
+        .formula("0 creates", creates(0, data(0)))
+        .formula("0 owns", owns(0, data(0)))
+        .formula("use", predicate(7, &[1, data(0)]))
+        .formula("0 says", says(0, "use", 1))
+        .formula("0 communicates", communicates(0, "use", 1))
+        .audits("0 communicates")
+        .row("0 creates", &[0])
+        .step(SEEN, "0 owns", 0, &[])
+        .step(OWNER, "0 says", ABSENT, &[0])
+}
+
+/// Agent 1 uses data 0 under a condition.
+pub fn visit() -> CaseFile {
+    CaseFile::new(1)
+        .formula("open", predicate(9, &[data(0)]))
+        .formula("use", predicate(7, &[1, data(0)]))
+        .formula("use if open", implies("open", "use"))
+        .formula("0 communicates", communicates(0, "use if open", 1))
+        .formula("0 says", says(0, "use if open", 1))
+        .formula("1 uses", user_action(7, &[1, data(0)]))
+        .audits("1 uses")
+        .row("0 communicates", &[0, 1])
+        .condition("open")
+        .step(SEEN, "0 says", 0, &[])
+        .step(SAYS, "use if open", ABSENT, &[0])
+        .step(CONDITION, "open", 0, &[])
+        .step(IMPLIED, "use", ABSENT, &[1, 2])
+}
+
+/// Agent 1 uses data 0 under an each-use obligation, which it cites twice.
+pub fn twice() -> CaseFile {
+    CaseFile::new(1)
+        .formula("action 3", user_action(3, &[1]))
+        .formula("use", predicate(7, &[1, data(0)]))
+        .formula("action 3, then use", each_use("action 3", "use"))
+        .formula("0 communicates", communicates(0, "action 3, then use", 1))
+        .formula("0 says", says(0, "action 3, then use", 1))
+        .formula("1 uses", user_action(7, &[1, data(0)]))
+        .formula("use and use", and("use", "use"))
+        .audits("1 uses")
+        .row("0 communicates", &[0, 1])
+        .obligation(1, "action 3")
+        .step(SEEN, "0 says", 0, &[])
+        .step(SAYS, "action 3, then use", ABSENT, &[0])
+        .step(BY_OBLIGATION, "use", 0, &[1])
+        .step(SEEN, "0 says", 0, &[])
+        .step(SAYS, "action 3, then use", ABSENT, &[3])
+        .step(BY_OBLIGATION, "use", 0, &[4])
+        .step(AND, "use and use", ABSENT, &[2, 5])
+        .step(LEFT, "use", ABSENT, &[6])
+}
+
+/// "Suppose p(32768), then for all by 32768."
+fn generalised() -> CaseFile {
+    CaseFile::new(0)
+        .formula("p of parameter", predicate(1, &[agent_parameter(0)]))
+        .formula("p of variable", predicate(1, &[agent_variable(0)]))
+        .formula("p of all", for_all_agents("p of variable"))
+        .formula("0 uses", user_action(7, &[0]))
+        .audits("0 uses")
+        .label(0, "p of parameter")
+        .step(SUPPOSE, "p of parameter", 0, &[])
+        .step(FOR_ALL, "p of all", agent_parameter(0), &[0])
+}
+
+/// "One step supposing what is owed."
+fn supposed() -> CaseFile {
+    CaseFile::new(0)
+        .formula("use", predicate(7, &[0]))
+        .formula("0 uses", user_action(7, &[0]))
+        .audits("0 uses")
+        .label(0, "use")
+        .step(SUPPOSE, "use", 0, &[])
+}
+
+fn vector(name: &str, case: CaseFile, verdict: Verdict) -> Vector {
+    Vector {
+        name: name.to_string(),
+        file: case.to_bytes(),
+        room: ROOM,
+        verdict,
+        written: Vec::new(),
+    }
+}
+
+fn refused(name: &str, case: CaseFile, number: u16, place: u16) -> Vector {
+    vector(name, case, Verdict::Refused { number, place })
+}
+
+fn passed(name: &str, case: CaseFile, obligations: &[u16], rows: &[u16]) -> Vector {
+    let verdict =
+        Verdict::Passed { obligations: obligations.len() as u16, rows: rows.len() as u16 };
+    Vector { written: [obligations, rows].concat(), ..vector(name, case, verdict) }
+}

@@ -1,0 +1,249 @@
+//! Checks 1 to 11 at their edges.
+
+use conformance::builder::*;
+use conformance::cases::grant;
+use conformance::checker::{admit, admit_book, check, Refusal, Verdict, ABSENT, MOST_BYTES};
+
+const NO: u16 = ABSENT;
+
+/// Kind, code, X, Y, Z.
+type Row = (u8, u8, u16, u16, u16);
+
+/// A predicate, "agent 0 owns data 0" and a user action of agent 0, as rows 0 to 2.
+const P: Row = (0, 1, NO, NO, NO);
+const OWNS: Row = (1, 0, 0, 16_384, NO);
+const ACTS: Row = (10, 1, 0, NO, NO);
+
+fn answer<T>(result: Result<T, Refusal>) -> Option<(u16, u16)> {
+    result.err().map(|refusal| (refusal.number, refusal.place))
+}
+
+/// What a book of these rows is refused with, if it is.
+fn book(rows: &[Row]) -> Option<(u16, u16)> {
+    let mut case = CaseFile::new(0);
+    for &(kind, code, x, y, z) in rows {
+        case.formulas.push(FormulaRow { kind, code, fields: [x, y, z] });
+    }
+    answer(admit_book(&case.formula_part()))
+}
+
+/// Whether this row stands well after the three above.
+fn row_3(row: Row) -> bool {
+    let refused = book(&[P, OWNS, ACTS, row]);
+    assert!(matches!(refused, None | Some((3, 3))));
+    refused.is_none()
+}
+
+/// What Grant, so changed, is refused with by checks 1 to 9, if it is.
+fn changed(change: impl FnOnce(&mut CaseFile)) -> Option<(u16, u16)> {
+    answer(admit(&grant().change(change).to_bytes()))
+}
+
+#[test]
+fn file_lengths() {
+    assert_eq!(answer(admit(&[0; 35])), Some((1, 0)));
+    assert_eq!(answer(admit(&[0; 36])), Some((2, 0)));
+    assert_eq!(answer(admit(&[0; MOST_BYTES])), Some((2, 0)));
+    assert_eq!(answer(admit(&[0; MOST_BYTES + 1])), Some((1, 0)));
+}
+
+#[test]
+fn parts() {
+    assert_eq!(changed(|_| ()), None);
+    assert_eq!(changed(|case| case.header[0] = Some((36, 39))), Some((2, 0)));
+    assert_eq!(changed(|case| case.header[4] = Some((85, 0))), Some((2, 4)));
+    assert_eq!(changed(|case| case.header[6] = Some((84, 30))), Some((2, 6)));
+    assert_eq!(changed(|case| case.header[7] = Some((104, 0))), Some((2, 7)));
+    assert_eq!(changed(|case| case.header[7] = Some((104, 4))), Some((2, 7)));
+    assert_eq!(changed(|case| case.conditions = vec![ABSENT; 64]), None);
+    assert_eq!(changed(|case| case.conditions = vec![ABSENT; 65]), Some((2, 3)));
+}
+
+#[test]
+fn observers_need_rows_and_premises_steps() {
+    let observers = |case: &mut CaseFile| {
+        case.header[1] = Some((76, 0));
+        case.header[2] = Some((76, 8));
+    };
+    assert_eq!(changed(observers), Some((2, 2)));
+    let premises = |case: &mut CaseFile| {
+        case.header[6] = Some((84, 0));
+        case.header[7] = Some((84, 22));
+    };
+    assert_eq!(changed(premises), Some((2, 7)));
+}
+
+/// The first and last term of each range, and the numbers next to them.
+#[test]
+fn terms() {
+    let agents = [0, 16_383, 32_768, 32_799, 40_960, 40_967];
+    let data = [16_384, 32_767, 32_800, 32_831, 40_968, 40_975];
+    let no_terms = [32_832, 40_959, 40_976, 65_534];
+    for term in agents {
+        assert!(row_3((1, 0, term, 16_385, NO)) && !row_3((1, 0, 1, term, NO)));
+    }
+    for term in data {
+        assert!(row_3((1, 0, 1, term, NO)) && !row_3((1, 0, term, 16_385, NO)));
+    }
+    for number in no_terms {
+        assert!(!row_3((0, 0, number, NO, NO)));
+    }
+}
+
+#[test]
+fn kinds_codes_and_fields() {
+    assert!(row_3((0, 255, 0, 16_384, 32_768)));
+    assert!(!row_3((0, 0, 0, NO, 0)));
+    assert!(!row_3((0, 0, 32_832, NO, NO)));
+    assert!(row_3((1, 0, 40_960, 40_968, NO)));
+    assert!(!row_3((1, 0, 40_968, 40_968, NO)));
+    assert!(!row_3((1, 0, 0, 0, NO)));
+    assert!(!row_3((1, 0, 0, 16_384, 0)));
+    assert!(!row_3((3, 1, 0, 1, NO)));
+    assert!(!row_3((3, 0, 0, NO, NO)));
+    assert!(row_3((4, 1, 0, NO, NO)));
+    assert!(!row_3((4, 2, 0, NO, NO)));
+    assert!(row_3((10, 255, 32_768, 16_384, 0)));
+    assert!(!row_3((10, 0, NO, NO, NO)));
+    assert!(!row_3((10, 0, 16_384, NO, NO)));
+    assert!(!row_3((10, 0, 0, NO, 0)));
+    assert!(!row_3((11, 0, NO, NO, NO)));
+}
+
+#[test]
+fn children() {
+    assert!(row_3((5, 0, 0, 1, NO)));
+    assert!(!row_3((5, 0, 0, 2, NO)));
+    assert!(!row_3((5, 0, 0, 3, NO)));
+    assert!(row_3((6, 0, 2, 0, NO)));
+    assert!(!row_3((6, 0, 0, 0, NO)));
+    assert!(!row_3((7, 0, 2, 2, NO)));
+    assert!(row_3((8, 0, 0, 1, 0)));
+    assert!(!row_3((8, 0, 0, 2, 0)));
+}
+
+/// 1, 3, 7, 15, 31 and 63 nodes, then 64, then 65.
+#[test]
+fn nodes() {
+    let mut rows = vec![P];
+    rows.extend((0..5).map(|row| (3, 0, row, row, NO)));
+    rows.push((4, 0, 5, NO, NO));
+    assert_eq!(book(&rows), None);
+    rows.push((4, 0, 6, NO, NO));
+    assert_eq!(book(&rows), Some((3, 7)));
+}
+
+/// The bound variable is number 0 in the body, and 1 under one more for-all of either sort.
+#[test]
+fn sorts_of_bound_variables() {
+    let of_data_variable_0 = (0, 0, 40_968, NO, NO);
+    let of_data_variable_1 = (0, 0, 40_969, NO, NO);
+    assert_eq!(book(&[of_data_variable_0, (4, 0, 0, NO, NO)]), Some((3, 1)));
+    assert_eq!(book(&[of_data_variable_1, (4, 0, 0, NO, NO)]), None);
+    for inner in [0, 1] {
+        let under =
+            |outer| book(&[of_data_variable_1, (4, inner, 0, NO, NO), (4, outer, 1, NO, NO)]);
+        assert_eq!(under(0), Some((3, 2)));
+        assert_eq!(under(1), None);
+    }
+}
+
+#[test]
+fn bad_rows_come_before_repeats() {
+    assert_eq!(book(&[P, P]), Some((4, 1)));
+    assert_eq!(book(&[P, P, (11, 0, NO, NO, NO)]), Some((3, 2)));
+}
+
+#[test]
+fn log_rows() {
+    let observed =
+        |observers: &'static [u16]| changed(|case| case.rows[0].observers = observers.to_vec());
+    assert_eq!(observed(&[]), None);
+    assert_eq!(observed(&[0, 16_383]), None);
+    assert_eq!(observed(&[0, 16_384]), Some((5, 0)));
+    assert_eq!(observed(&[1, 0]), Some((5, 0)));
+    assert_eq!(changed(|case| case.rows[0].action = ABSENT), None);
+    assert_eq!(changed(|case| case.rows[0].action = 1), Some((5, 0)));
+    assert_eq!(changed(|case| case.rows[0].action = 5), Some((5, 0)));
+    let two_rows = |spans: [(u16, u16); 2]| {
+        changed(|case| {
+            case.rows.push(case.rows[0].clone());
+            case.rows[0].span = Some(spans[0]);
+            case.rows[1].span = Some(spans[1]);
+        })
+    };
+    assert_eq!(two_rows([(0, 0), (0, 1)]), Some((5, 1)));
+    assert_eq!(two_rows([(0, 0), (1, 1)]), Some((5, 1)));
+    assert_eq!(two_rows([(0, 3), (3, 0)]), Some((5, 0)));
+    assert_eq!(two_rows([(1, 1), (2, 0)]), Some((5, 0)));
+    assert_eq!(two_rows([(0, 1), (1, 1)]), None);
+}
+
+/// Grant and formulas 5 to 9: with a parameter, a variable, and closed without being ground.
+fn with_terms(case: &mut CaseFile) {
+    *case = case
+        .clone()
+        .formula("of parameter", predicate(1, &[agent_parameter(0)]))
+        .formula("of variable", predicate(1, &[agent_variable(0)]))
+        .formula("of all", for_all_agents("of variable"))
+        .formula("acts on parameter", user_action(1, &[0, data_parameter(0)]))
+        .formula("acts on variable", user_action(1, &[0, data_variable(0)]));
+}
+
+#[test]
+fn conditions_obligations_and_labels() {
+    let condition = |number| {
+        changed(|case| {
+            with_terms(case);
+            case.conditions = vec![ABSENT, number];
+        })
+    };
+    assert_eq!(condition(2), None);
+    for number in [0, 1, 5, 6, 7, 10] {
+        assert_eq!(condition(number), Some((6, 1)));
+    }
+    let obligation = |record| {
+        changed(|case| {
+            with_terms(case);
+            case.obligations = vec![(2, 0), record];
+        })
+    };
+    assert_eq!(obligation((1, 0)), None);
+    for record in [(0, 0), (1, 1), (1, 8), (1, 9), (1, ABSENT)] {
+        assert_eq!(obligation(record), Some((7, 1)));
+    }
+    let label = |record| {
+        changed(|case| {
+            with_terms(case);
+            case.labels = vec![record];
+        })
+    };
+    for record in [(0, 5), (0, 7), (1, 8), (2, 8)] {
+        assert_eq!(label(record), None);
+    }
+    for record in [(0, 6), (0, 8), (1, 5), (1, 9), (3, 0), (0, ABSENT)] {
+        assert_eq!(label(record), Some((8, 0)));
+    }
+}
+
+#[test]
+fn agent_and_action() {
+    assert_eq!(changed(|case| case.agent = 16_383), None);
+    assert_eq!(changed(|case| case.agent = 16_384), Some((9, 0)));
+    assert_eq!(changed(|case| case.action = ABSENT), Some((9, 0)));
+    let with_parameter = |case: &mut CaseFile| {
+        with_terms(case);
+        case.action = 8;
+    };
+    assert_eq!(changed(with_parameter), Some((9, 0)));
+}
+
+/// A user action of another agent owes this one nothing.
+#[test]
+fn owed_or_not() {
+    let case = |agent| {
+        CaseFile::new(agent).formula("1 acts", user_action(1, &[1])).audits("1 acts").to_bytes()
+    };
+    assert_eq!(check(&case(0), &mut []), Verdict::NoneOwed);
+    assert_eq!(check(&case(1), &mut []), Verdict::Refused { number: 10, place: 0 });
+}

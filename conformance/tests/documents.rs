@@ -1,0 +1,193 @@
+//! The checker against document 01's examples, the base vectors, struck files and random damage.
+
+use std::collections::BTreeSet;
+
+use conformance::builder::CaseFile;
+use conformance::cases::{examples, grant};
+use conformance::checker::{check, strike_unseen, Verdict, ABSENT};
+use conformance::vectors::{read, Vector};
+
+const BASE: &str = include_str!("../base.tsv");
+
+/// A room starts full of this, so that an entry written shows.
+const PATTERN: u16 = 0xA5A5;
+
+fn base_vectors() -> Vec<Vector> {
+    read(BASE).expect("every line of base.tsv is a vector")
+}
+
+fn examples_and_vectors() -> Vec<Vector> {
+    let mut all = examples();
+    all.extend(base_vectors());
+    all
+}
+
+/// The verdict and the whole room after it.
+fn run(file: &[u8], entries: usize) -> (Verdict, Vec<u16>) {
+    let mut room = vec![PATTERN; entries];
+    let verdict = check(file, &mut room);
+    (verdict, room)
+}
+
+fn assert_agrees(vector: &Vector) {
+    let mut room = vector.written.clone();
+    assert!(room.len() <= vector.room, "{}", vector.name);
+    room.resize(vector.room, PATTERN);
+    let expected = (vector.verdict, room);
+    assert_eq!(run(&vector.file, vector.room), expected, "{}", vector.name);
+}
+
+#[test]
+fn examples_of_document_01() {
+    let all = examples();
+    assert_eq!(all.len(), 23 + 7);
+    all.iter().for_each(assert_agrees);
+}
+
+#[test]
+fn grant_has_106_bytes() {
+    let all = examples();
+    let grant = all.iter().find(|example| example.name == "Grant");
+    assert_eq!(grant.map(|grant| grant.file.len()), Some(106));
+}
+
+#[test]
+fn base_vectors_agree() {
+    let all = base_vectors();
+    assert_eq!(all.len(), 319);
+    all.iter().for_each(assert_agrees);
+}
+
+#[test]
+fn every_refusal_occurs() {
+    let numbers = examples_and_vectors().into_iter().filter_map(|vector| match vector.verdict {
+        Verdict::Refused { number, .. } => Some(number),
+        _ => None,
+    });
+    assert_eq!(numbers.collect::<BTreeSet<u16>>(), (1..=23).collect());
+}
+
+/// Striking what the agent does not see changes no verdict and no room, unless the file falls
+/// before its log is admitted: check 5 may refuse an action that is struck out afterwards.
+fn assert_blind_to_unseen(file: &[u8], entries: usize) {
+    let struck = strike_unseen(file);
+    assert_eq!(struck.len(), file.len());
+    assert_eq!(strike_unseen(&struck), struck);
+    let (verdict, room) = run(file, entries);
+    match verdict {
+        Verdict::Refused { number: 1 | 2, .. } => assert_eq!(struck, file),
+        Verdict::Refused { number: 5, .. } => (),
+        _ => assert_eq!(run(&struck, entries), (verdict, room)),
+    }
+}
+
+#[test]
+fn unseen_rows_do_not_matter() {
+    let all = examples_and_vectors();
+    for vector in &all {
+        assert_blind_to_unseen(&vector.file, vector.room);
+    }
+    let changed = all.iter().filter(|vector| strike_unseen(&vector.file) != vector.file);
+    assert!(changed.count() > 0);
+}
+
+/// Three rows, of which agent 0 sees the second; a span may also name more than there is.
+#[test]
+fn struck_rows() {
+    let case = grant().row("0 creates", &[0, 2]).row("0 creates", &[3]);
+    let case = case.change(|case| case.rows[0].observers = vec![1]);
+    let strike = |case: CaseFile| {
+        let struck = case.clone().change(|case| {
+            case.rows[0].action = ABSENT;
+            case.rows[2].action = ABSENT;
+        });
+        assert_eq!(strike_unseen(&case.to_bytes()), struck.to_bytes());
+    };
+    strike(case.clone());
+    strike(case.clone().change(|case| case.rows[1].span = Some((0, ABSENT))));
+    strike(case.change(|case| case.rows[2].span = Some((ABSENT, ABSENT))));
+}
+
+/// A room of just the entries needed is long enough, and one entry less is too short.
+#[test]
+fn shortest_rooms() {
+    let mut all = examples_and_vectors();
+    all.retain(|vector| matches!(vector.verdict, Verdict::Passed { .. }));
+    for vector in all {
+        let needed = vector.written.len();
+        assert_eq!(run(&vector.file, needed), (vector.verdict, vector.written));
+        if needed > 0 {
+            let refused = Verdict::Refused { number: 23, place: needed as u16 };
+            assert_eq!(run(&vector.file, needed - 1), (refused, vec![PATTERN; needed - 1]));
+        }
+    }
+}
+
+/// A small generator of numbers (xorshift), the same on each run.
+struct Random(u64);
+
+impl Random {
+    fn below(&mut self, bound: usize) -> usize {
+        self.0 ^= self.0 << 13;
+        self.0 ^= self.0 >> 7;
+        self.0 ^= self.0 << 17;
+        (self.0 >> 11) as usize % bound.max(1)
+    }
+}
+
+/// Up to four bytes changed, mostly to near or telling values; one file in eight also cut.
+fn damage(file: &[u8], random: &mut Random) -> Vec<u8> {
+    let mut file = file.to_vec();
+    for _ in 0..=random.below(4) {
+        let at = random.below(file.len());
+        let value = match random.below(4) {
+            0 => random.below(256) as u8,
+            1 => 255,
+            2 => random.below(17) as u8,
+            _ => file.get(at).map_or(0, |byte| byte.wrapping_add(1)),
+        };
+        if let Some(byte) = file.get_mut(at) {
+            *byte = value;
+        }
+    }
+    if random.below(8) == 0 {
+        file.truncate(random.below(file.len() + 1));
+    }
+    file
+}
+
+/// What holds of every answer, whatever the file.
+fn assert_well_formed(verdict: Verdict, room: &[u16]) {
+    let written = match verdict {
+        Verdict::Passed { obligations, rows } => {
+            let (duties, rest) = room.split_at(obligations as usize);
+            let rows = &rest[..rows as usize];
+            assert!(duties.windows(2).all(|pair| pair[0] < pair[1]));
+            assert!(rows.windows(2).all(|pair| pair[0] < pair[1]));
+            duties.len() + rows.len()
+        }
+        Verdict::NoneOwed => 0,
+        Verdict::Refused { number, .. } => {
+            assert!((1..=23).contains(&number));
+            0
+        }
+    };
+    assert!(room[written..].iter().all(|entry| *entry == PATTERN));
+}
+
+#[test]
+fn damaged_files() {
+    let all = examples_and_vectors();
+    let mut random = Random(0x0123_4567_89AB_CDEF);
+    let mut passes = 0;
+    for turn in 0..200_000 {
+        let vector = &all[turn % all.len()];
+        let file = damage(&vector.file, &mut random);
+        let entries = random.below(8);
+        let (verdict, room) = run(&file, entries);
+        assert_well_formed(verdict, &room);
+        assert_blind_to_unseen(&file, entries);
+        passes += usize::from(matches!(verdict, Verdict::Passed { .. }));
+    }
+    assert!(passes > 1_000);
+}

@@ -1,0 +1,365 @@
+//! Each of the sixteen rules where it fits, and near misses. Number 0 means that a step holds.
+
+use conformance::builder::*;
+use conformance::checker::{check, Verdict, ABSENT};
+
+const HOLDS: u16 = 0;
+
+/// The number that the last step is refused with by checks 12 to 19. No case here proves what is
+/// owed, so one whose steps all hold falls at 20 to 22.
+fn last_step(case: &CaseFile) -> u16 {
+    match check(&case.to_bytes(), &mut []) {
+        Verdict::Refused { number: 20..=22, .. } => HOLDS,
+        Verdict::Refused { number, place } => {
+            assert_eq!(place as usize + 1, case.steps.len(), "refused {number} {place}");
+            number
+        }
+        verdict => panic!("{verdict}"),
+    }
+}
+
+/// Agent 1 is audited for "goal". The formulas are those the rules below need.
+fn scene() -> CaseFile {
+    CaseFile::new(1)
+        .formula("goal", user_action(99, &[1]))
+        .audits("goal")
+        .formula("p", predicate(1, &[]))
+        .formula("q", predicate(2, &[]))
+        .formula("p and q", and("p", "q"))
+        .formula("p implies q", implies("p", "q"))
+        .formula("act", user_action(3, &[1]))
+        .formula("other act", user_action(4, &[1]))
+        .formula("act each use, p", each_use("act", "p"))
+        .formula("act once, p", once("act", "p"))
+        .formula("1 says p to 2", says(1, "p", 2))
+        .formula("1 says q to 2", says(1, "q", 2))
+        .formula("1 says q to 3", says(1, "q", 3))
+        .formula("2 says p to 1", says(2, "p", 1))
+        .formula("2 says p to 2", says(2, "p", 2))
+        .formula("2 says q to 2", says(2, "q", 2))
+}
+
+/// Supposes each premise, by a label of its own after those of the case, then takes the step.
+fn step(case: CaseFile, rule: u16, premises: &[&str], argument: u16, formula: &str) -> u16 {
+    let mut case = case;
+    for premise in premises {
+        let label = case.labels.len() as u16;
+        case = case.label(0, premise).step(SUPPOSE, premise, label, &[]);
+    }
+    let earlier: Vec<u16> = (0..premises.len() as u16).collect();
+    last_step(&case.step(rule, formula, argument, &earlier))
+}
+
+#[test]
+fn suppose() {
+    let labelled = || scene().label(0, "p").label(1, "act");
+    assert_eq!(step(labelled(), SUPPOSE, &[], 0, "p"), HOLDS);
+    assert_eq!(step(labelled(), SUPPOSE, &[], 0, "q"), 18);
+    assert_eq!(step(labelled(), SUPPOSE, &[], 1, "p"), 18);
+    assert_eq!(step(labelled(), SUPPOSE, &[], 2, "p"), 15);
+    assert_eq!(step(labelled(), SUPPOSE, &[], ABSENT, "p"), 14);
+    assert_eq!(step(labelled(), SUPPOSE, &[], 0, "act"), 12);
+    assert_eq!(step(labelled(), SUPPOSE, &["p"], 0, "p"), 12);
+}
+
+#[test]
+fn condition() {
+    let certified = || scene().condition("p").change(|case| case.conditions.push(ABSENT));
+    assert_eq!(step(certified(), CONDITION, &[], 0, "p"), HOLDS);
+    assert_eq!(step(certified(), CONDITION, &[], 0, "q"), 18);
+    assert_eq!(step(certified(), CONDITION, &[], 1, "p"), 14);
+    assert_eq!(step(certified(), CONDITION, &[], 2, "p"), 15);
+    assert_eq!(step(certified(), CONDITION, &[], ABSENT, "p"), 14);
+}
+
+/// A listed bystander sees a row and concludes nothing; a recipient who is not listed does not see
+/// it, and not whether it is struck.
+#[test]
+fn seen() {
+    let logged = || {
+        scene()
+            .formula("2 tells 1", communicates(2, "p", 1))
+            .formula("1 tells 2", communicates(1, "p", 2))
+            .formula("2 creates", creates(2, data(0)))
+            .formula("2 owns", owns(2, data(0)))
+            .row("2 tells 1", &[1])
+            .row("1 tells 2", &[1, 2])
+            .row("2 creates", &[1])
+            .row("act", &[1])
+            .row("2 tells 1", &[2])
+    };
+    assert_eq!(step(logged(), SEEN, &[], 0, "2 says p to 1"), HOLDS);
+    assert_eq!(step(logged(), SEEN, &[], 0, "p"), 18);
+    assert_eq!(step(logged(), SEEN, &[], 1, "1 says p to 2"), 18);
+    assert_eq!(step(logged(), SEEN, &[], 2, "2 owns"), 18);
+    assert_eq!(step(logged(), SEEN, &[], 3, "p"), 18);
+    assert_eq!(step(logged(), SEEN, &[], 4, "2 says p to 1"), 16);
+    assert_eq!(step(logged(), SEEN, &[], 5, "2 says p to 1"), 15);
+    let strike = |case: &mut CaseFile| case.rows.iter_mut().for_each(|row| row.action = ABSENT);
+    assert_eq!(step(logged().change(strike), SEEN, &[], 0, "2 says p to 1"), 14);
+    assert_eq!(step(logged().change(strike), SEEN, &[], 4, "2 says p to 1"), 16);
+}
+
+#[test]
+fn says_and_refine() {
+    assert_eq!(step(scene(), SAYS, &["2 says p to 1"], ABSENT, "p"), HOLDS);
+    assert_eq!(step(scene(), SAYS, &["2 says p to 2"], ABSENT, "p"), 18);
+    assert_eq!(step(scene(), SAYS, &["2 says p to 1"], ABSENT, "q"), 18);
+    assert_eq!(step(scene(), SAYS, &["2 says p to 1"], 0, "p"), 12);
+    let refine = |said, formula| step(scene(), REFINE, &["p implies q", said], ABSENT, formula);
+    assert_eq!(refine("1 says p to 2", "1 says q to 2"), HOLDS);
+    assert_eq!(refine("1 says p to 2", "1 says q to 3"), 18);
+    assert_eq!(refine("1 says p to 2", "1 says p to 2"), 18);
+    assert_eq!(refine("1 says q to 2", "1 says q to 2"), 18);
+    assert_eq!(refine("2 says p to 2", "2 says q to 2"), 18);
+    let swapped = ["1 says p to 2", "p implies q"];
+    assert_eq!(step(scene(), REFINE, &swapped, ABSENT, "1 says q to 2"), 18);
+}
+
+/// Formulas for the owner rule. Data 1 stands inside an action only.
+fn owner_scene() -> CaseFile {
+    scene()
+        .formula("1 owns 0", owns(1, data(0)))
+        .formula("1 owns 1", owns(1, data(1)))
+        .formula("1 owns p", owns(1, data_parameter(0)))
+        .formula("2 owns 0", owns(2, data(0)))
+        .formula("of 0 and p", predicate(7, &[data(0), data_parameter(0)]))
+        .formula("on 1", user_action(5, &[1, data(1)]))
+        .formula("all", each_use("on 1", "of 0 and p"))
+        .formula("1 says all", says(1, "all", 2))
+        .formula("of 0", predicate(7, &[data(0)]))
+        .formula("1 says 0", says(1, "of 0", 2))
+        .formula("2 says 0", says(2, "of 0", 2))
+        .formula("of 0 and x", predicate(7, &[data(0), data_variable(0)]))
+        .formula("for all x", for_all_data("of 0 and x"))
+        .formula("1 says x", says(1, "for all x", 2))
+        .formula("for no x", for_all_data("of 0"))
+        .formula("1 says no x", says(1, "for no x", 2))
+}
+
+#[test]
+fn owner() {
+    let owner = |premises: &[&str], formula| step(owner_scene(), OWNER, premises, ABSENT, formula);
+    assert_eq!(owner(&["1 owns 0", "1 owns 1", "1 owns p"], "1 says all"), HOLDS);
+    assert_eq!(owner(&["1 owns 1", "1 owns 0", "1 owns p"], "1 says all"), 18);
+    assert_eq!(owner(&["1 owns 0", "1 owns p"], "1 says all"), 18);
+    assert_eq!(owner(&["1 owns 0"], "1 says 0"), HOLDS);
+    assert_eq!(owner(&["1 owns 0", "1 owns 0"], "1 says 0"), 18);
+    assert_eq!(owner(&["1 owns 0", "1 owns 1"], "1 says 0"), 18);
+    assert_eq!(owner(&["2 owns 0"], "1 says 0"), 18);
+    assert_eq!(owner(&["1 owns 0"], "2 says 0"), 18);
+    assert_eq!(owner(&["1 owns 0"], "of 0"), 18);
+    assert_eq!(owner(&["1 owns 0"], "1 says x"), 18);
+    assert_eq!(owner(&["1 owns 0"], "1 says no x"), HOLDS);
+    assert_eq!(owner(&["1 owns 0"], "1 says p to 2"), 18);
+    assert_eq!(owner(&[], "1 says p to 2"), 12);
+    assert_eq!(owner(&["1 owns 0"; 16], "1 says 0"), 18);
+    assert_eq!(owner(&["1 owns 0"; 17], "1 says 0"), 12);
+}
+
+#[test]
+fn and_implies() {
+    assert_eq!(step(scene(), AND, &["p", "q"], ABSENT, "p and q"), HOLDS);
+    assert_eq!(step(scene(), AND, &["q", "p"], ABSENT, "p and q"), 18);
+    assert_eq!(step(scene(), LEFT, &["p and q"], ABSENT, "p"), HOLDS);
+    assert_eq!(step(scene(), LEFT, &["p and q"], ABSENT, "q"), 18);
+    assert_eq!(step(scene(), RIGHT, &["p and q"], ABSENT, "q"), HOLDS);
+    assert_eq!(step(scene(), RIGHT, &["p and q"], ABSENT, "p"), 18);
+    assert_eq!(step(scene(), LEFT, &["p implies q"], ABSENT, "p"), 18);
+    assert_eq!(step(scene(), IMPLIED, &["p implies q", "p"], ABSENT, "q"), HOLDS);
+    assert_eq!(step(scene(), IMPLIED, &["p", "p implies q"], ABSENT, "q"), 18);
+    assert_eq!(step(scene(), IMPLIED, &["p implies q", "q"], ABSENT, "q"), 18);
+    let labelled = || scene().label(0, "p").label(1, "act");
+    let implies =
+        |premise, label| step(labelled(), IMPLIES_FROM_LABEL, &[premise], label, "p implies q");
+    assert_eq!(implies("q", 0), HOLDS);
+    assert_eq!(implies("p", 0), 18);
+    assert_eq!(implies("q", 1), 18);
+    assert_eq!(implies("q", 2), 18);
+    assert_eq!(implies("q", 3), 15);
+}
+
+#[test]
+fn obligations() {
+    let labelled = || scene().label(0, "p").label(1, "act").label(2, "act").label(1, "other act");
+    let obliges = |label, formula| step(labelled(), OBLIGES_FROM_LABEL, &["p"], label, formula);
+    assert_eq!([0, 1, 2, 3].map(|label| obliges(label, "act each use, p")), [18, HOLDS, 18, 18]);
+    assert_eq!([0, 1, 2, 3].map(|label| obliges(label, "act once, p")), [18, 18, HOLDS, 18]);
+    let by_label = |premise, label| step(labelled(), BY_LABEL, &[premise], label, "p");
+    assert_eq!([0, 1, 2, 3].map(|label| by_label("act each use, p", label)), [18, HOLDS, 18, 18]);
+    assert_eq!([0, 1, 2, 3].map(|label| by_label("act once, p", label)), [18, 18, HOLDS, 18]);
+    let owing = || scene().obligation(1, "act").obligation(2, "act").obligation(1, "other act");
+    let by_row = |premise, row| step(owing(), BY_OBLIGATION, &[premise], row, "p");
+    assert_eq!([0, 1, 2, 3].map(|row| by_row("act each use, p", row)), [HOLDS, 18, 18, 15]);
+    assert_eq!([0, 1, 2, 3].map(|row| by_row("act once, p", row)), [18, HOLDS, 18, 15]);
+    assert_eq!(step(owing(), BY_OBLIGATION, &["act once, p"], 1, "q"), 18);
+}
+
+/// The demand met twice, by labels of this mark: first by label 1, then by label 1 or 2.
+fn met_twice(mark: u16, demand: &'static str, second: u16) -> CaseFile {
+    scene()
+        .formula("p and p", and("p", "p"))
+        .formula("demand and demand", and(demand, demand))
+        .label(0, demand)
+        .label(mark, "act")
+        .label(mark, "act")
+        .step(SUPPOSE, demand, 0, &[])
+        .step(BY_LABEL, "p", 1, &[0])
+        .step(SUPPOSE, demand, 0, &[])
+        .step(BY_LABEL, "p", second, &[2])
+}
+
+/// A demand within a demand, met by labels of this mark: first by label 1, then by label 1 or 2.
+fn nested(mark: u16, second: u16) -> CaseFile {
+    let (inner, outer) = match mark {
+        1 => ("act each use, p", each_use("act", "act each use, p")),
+        _ => ("act once, p", once("act", "act once, p")),
+    };
+    scene()
+        .formula("outer", outer)
+        .label(0, "outer")
+        .label(mark, "act")
+        .label(mark, "act")
+        .step(SUPPOSE, "outer", 0, &[])
+        .step(BY_LABEL, inner, 1, &[0])
+        .step(BY_LABEL, "p", second, &[1])
+}
+
+/// Twin labels are two; a label met once for all uses may stand open in two premises; a closed
+/// label is open no longer; and 17 comes before 18.
+#[test]
+fn each_use_labels() {
+    let joined = |mark, demand, second, formula| {
+        last_step(&met_twice(mark, demand, second).step(AND, formula, ABSENT, &[1, 3]))
+    };
+    assert_eq!(joined(1, "act each use, p", 1, "p and p"), 17);
+    assert_eq!(joined(1, "act each use, p", 1, "p"), 17);
+    assert_eq!(joined(1, "act each use, p", 2, "p and p"), HOLDS);
+    assert_eq!(joined(2, "act once, p", 1, "p and p"), HOLDS);
+    let closed = met_twice(1, "act each use, p", 1)
+        .step(OBLIGES_FROM_LABEL, "act each use, p", 1, &[1])
+        .step(OBLIGES_FROM_LABEL, "act each use, p", 1, &[3])
+        .step(AND, "demand and demand", ABSENT, &[4, 5]);
+    assert_eq!(last_step(&closed), HOLDS);
+    assert_eq!(last_step(&nested(1, 1)), 17);
+    assert_eq!(last_step(&nested(1, 2)), HOLDS);
+    assert_eq!(last_step(&nested(2, 1)), HOLDS);
+}
+
+/// Formulas for the rules of for-all: "r" of two agents, "s" of a data object.
+fn for_all_scene() -> CaseFile {
+    let (a, x) = (agent_parameter(0), agent_variable(0));
+    scene()
+        .formula("r a a", predicate(5, &[a, a]))
+        .formula("r x x", predicate(5, &[x, x]))
+        .formula("r x a", predicate(5, &[x, a]))
+        .formula("r 3 3", predicate(5, &[3, 3]))
+        .formula("r 3 4", predicate(5, &[3, 4]))
+        .formula("all r x x", for_all_agents("r x x"))
+        .formula("all r x a", for_all_agents("r x a"))
+        .formula("all p", for_all_agents("p"))
+        .formula("r y x", predicate(5, &[agent_variable(1), x]))
+        .formula("some y", for_all_agents("r y x"))
+        .formula("all y", for_all_agents("some y"))
+        .formula("r 3 x", predicate(5, &[3, x]))
+        .formula("all r 3 x", for_all_agents("r 3 x"))
+        .formula("r a implies r a", implies("r a a", "r a a"))
+        .formula("r x implies r x", implies("r x x", "r x x"))
+        .formula("all r implies r", for_all_agents("r x implies r x"))
+}
+
+#[test]
+fn instance() {
+    let instance =
+        |premise, argument, formula| step(for_all_scene(), INSTANCE, &[premise], argument, formula);
+    assert_eq!(instance("all r x x", 3, "r 3 3"), HOLDS);
+    assert_eq!(instance("all r x x", 3, "r 3 4"), 18);
+    assert_eq!(instance("all r x x", 4, "r 3 3"), 18);
+    assert_eq!(instance("all r x x", agent_parameter(0), "r a a"), HOLDS);
+    assert_eq!(instance("all r x a", agent_parameter(0), "r a a"), HOLDS);
+    assert_eq!(instance("all y", 3, "all r 3 x"), HOLDS);
+    assert_eq!(instance("all p", 3, "p"), HOLDS);
+    for argument in [data(0), data_parameter(0), agent_variable(0), 65_534] {
+        assert_eq!(instance("all p", argument, "p"), 18);
+    }
+    assert_eq!(instance("all p", ABSENT, "p"), 14);
+}
+
+#[test]
+fn for_all() {
+    let given = || for_all_scene().condition("p").condition("r 3 3");
+    let for_all = |premise: &str, entry, argument, formula| {
+        let case = given().step(CONDITION, premise, entry, &[]);
+        last_step(&case.step(FOR_ALL, formula, argument, &[0]))
+    };
+    assert_eq!(for_all("p", 0, agent_parameter(0), "all p"), HOLDS);
+    assert_eq!(for_all("p", 0, data_parameter(0), "all p"), 18);
+    assert_eq!(for_all("p", 0, 3, "all p"), 18);
+    assert_eq!(for_all("p", 0, ABSENT, "all p"), 14);
+    assert_eq!(for_all("r 3 3", 1, 3, "all r x x"), 18);
+}
+
+/// The parameter may stand in a label that is closed by then, in none that is open, and not in
+/// the formula.
+#[test]
+fn fresh_parameters() {
+    let a = agent_parameter(0);
+    let supposed = for_all_scene().label(0, "r a a").step(SUPPOSE, "r a a", 0, &[]);
+    let open = supposed.clone().step(FOR_ALL, "all r x x", a, &[0]);
+    assert_eq!(last_step(&open), 19);
+    let misfit = supposed.clone().step(FOR_ALL, "all p", a, &[0]);
+    assert_eq!(last_step(&misfit), 18);
+    let other = supposed.clone().step(FOR_ALL, "all r x x", agent_parameter(1), &[0]);
+    assert_eq!(last_step(&other), 18);
+    let closed = supposed.step(IMPLIES_FROM_LABEL, "r a implies r a", 0, &[0]);
+    let fresh = closed.step(FOR_ALL, "all r implies r", a, &[1]);
+    assert_eq!(last_step(&fresh), HOLDS);
+    let all = for_all_scene().label(0, "all r x x").step(SUPPOSE, "all r x x", 0, &[]);
+    let instance = all.step(INSTANCE, "r a a", a, &[0]);
+    assert_eq!(last_step(&instance.clone().step(FOR_ALL, "all r x x", a, &[1])), HOLDS);
+    assert_eq!(last_step(&instance.step(FOR_ALL, "all r x a", a, &[1])), 19);
+}
+
+#[test]
+fn premises_and_spans() {
+    let base = || {
+        let given = scene().condition("p").condition("q");
+        given.step(CONDITION, "p", 0, &[]).step(CONDITION, "q", 1, &[])
+    };
+    let and = |premises: &[u16]| last_step(&base().step(AND, "p and q", ABSENT, premises));
+    assert_eq!(and(&[0, 1]), HOLDS);
+    assert_eq!(and(&[0, 0]), 13);
+    assert_eq!(and(&[0, 2]), 13);
+    assert_eq!(and(&[0, ABSENT]), 13);
+    assert_eq!(and(&[0]), 12);
+    assert_eq!(and(&[0, 1, 1]), 12);
+    let spanned = |span| {
+        let case = base().step(AND, "p and q", ABSENT, &[0, 1]);
+        last_step(&case.change(|case| case.steps[2].span = Some(span)))
+    };
+    assert_eq!([(0, 2), (1, 2), (0, 3), (0, 1)].map(spanned), [HOLDS, 12, 12, 12]);
+    let no_entries = base().change(|case| {
+        case.steps[1].span = Some((1, 0));
+        case.steps.truncate(2);
+    });
+    assert_eq!(last_step(&no_entries), 12);
+    let free = base().formula("r x", predicate(1, &[agent_variable(0)]));
+    assert_eq!(last_step(&free.step(CONDITION, "r x", 0, &[])), 12);
+}
+
+/// 20 comes before 21 and 21 before 22, each with the lowest place.
+#[test]
+fn ends() {
+    let ends = |case: CaseFile, expected| {
+        let (number, place) = expected;
+        assert_eq!(check(&case.to_bytes(), &mut []), Verdict::Refused { number, place });
+    };
+    let labelled = scene().label(0, "p").label(0, "q").label(0, "p");
+    let three =
+        labelled.step(SUPPOSE, "p", 2, &[]).step(SUPPOSE, "q", 1, &[]).step(SUPPOSE, "p", 0, &[]);
+    ends(three, (20, 0));
+    let supposed = scene().label(0, "p").label(0, "q").label(0, "p");
+    let supposed = supposed.step(SUPPOSE, "p", 2, &[]).step(SUPPOSE, "q", 1, &[]);
+    ends(supposed.step(AND, "p and q", ABSENT, &[0, 1]), (21, 1));
+    ends(scene().condition("p").step(CONDITION, "p", 0, &[]), (22, 0));
+}

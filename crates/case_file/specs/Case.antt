@@ -1,0 +1,71 @@
+-- A case as the rules get it: formulas are trees, and the log is what the agent sees of it.
+use Prim.Native.Nat.{ℕ}
+use mathlib.Core.Bool.{cond}
+use mathlib.Core.Option.{Option, none, some}
+use mathlib.Core.List.{List}
+use lib.Dec.{eqb}
+use Rattle.words.specs.Words.{absent}
+use Rattle.formula_book.specs.Formulas.{Formula}
+use Rattle.formula_book.specs.Book.{treeIn}
+use Rattle.case_file.specs.Layout.{log-part, condition-part, obligation-part, label-part, step-part, premise-part, count, agentOf, actionOf}
+use Rattle.case_file.specs.Records.{formulas, conditionFormula, obligationMark, obligationAction, labelMark, labelFormula, stepRule, stepFormula, stepArgument, stepFrom, stepCount, premiseStep}
+use Rattle.case_file.specs.Views.{RowView, rowView}
+
+-- An obligation or a label: a mark and a formula.
+pub record Marked : Type 0 where
+  pub mark : ℕ
+  pub formula : Formula
+
+pub record Step : Type 0 where
+  pub rule : ℕ
+  pub formula : Formula
+  pub argument : ℕ
+  pub from : ℕ
+  pub len : ℕ
+
+pub record Case : Type 0 where
+  pub agent : ℕ
+  pub action : Formula
+  pub rows : ℕ
+  pub row : ℕ → RowView
+  pub conditions : ℕ
+  pub condition : ℕ → Option Formula
+  pub obligations : ℕ
+  pub obligation : ℕ → Marked
+  pub labels : ℕ
+  pub label : ℕ → Marked
+  pub steps : ℕ
+  pub step : ℕ → Step
+  pub premises : ℕ
+  pub premise : ℕ → ℕ
+
+-- A condition's formula, or none where "no reading was certified".
+unfoldable pub reading : List Formula → ℕ → Option Formula
+reading l n = cond (eqb n absent) none (some (treeIn l n))
+
+unfoldable pub caseOf : List ℕ → Case
+caseOf s =
+    let l = formulas s in
+    record {
+      agent = agentOf s;
+      action = treeIn l (actionOf s);
+      rows = count s log-part;
+      row = rowView s l;
+      conditions = count s condition-part;
+      condition = λ k. reading l (conditionFormula s k);
+      obligations = count s obligation-part;
+      obligation = λ k. record { mark = obligationMark s k; formula = treeIn l (obligationAction s k) };
+      labels = count s label-part;
+      label = λ k. record { mark = labelMark s k; formula = treeIn l (labelFormula s k) };
+      steps = count s step-part;
+      step =
+          λ k. record {
+            rule = stepRule s k;
+            formula = treeIn l (stepFormula s k);
+            argument = stepArgument s k;
+            from = stepFrom s k;
+            len = stepCount s k;
+          };
+      premises = count s premise-part;
+      premise = premiseStep s;
+    }

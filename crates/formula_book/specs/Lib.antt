@@ -1,0 +1,4 @@
+pub mod Terms
+pub mod Formulas
+pub mod Book
+pub mod Meanings

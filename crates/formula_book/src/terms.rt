@@ -1,0 +1,91 @@
+// Terms: what a number stands for.
+ghost use mathlib.Core.Path.{_≡_};
+ghost use Prim.Native.Nat.{_<_, _≤_};
+ghost use Rattle.formula_book.specs.Terms.{classOf};
+ghost use Rattle.formula_book.specs.Meanings.{termMeant};
+
+pub enum Sort {
+    Agents,
+    Data,
+}
+
+pub enum Term {
+    Object(Sort),
+    Parameter(Sort),
+    Variable(Sort, u16),
+    Absent,
+    Other,
+}
+
+impl Term {
+    pub const AGENTS_END: u16 = 16384;
+
+    pub const DATA_END: u16 = 32768;
+
+    pub const AGENT_PARAMETERS_END: u16 = 32800;
+
+    pub const DATA_PARAMETERS_END: u16 = 32832;
+
+    pub const AGENT_VARIABLES: u16 = 40960;
+
+    pub const DATA_VARIABLES: u16 = 40968;
+
+    pub const VARIABLES_END: u16 = 40976;
+
+    pub const ABSENT: u16 = 65535;
+
+    // What any number is as a term.
+    pub fn of(number: u16) -> Term
+        ensures { λ r. ⌜ termMeant r ≡ classOf number ⌝ }
+    {
+        if number < Term::DATA_END {
+            return Term::object(number);
+        }
+        if number < Term::DATA_PARAMETERS_END {
+            return Term::parameter(number);
+        }
+        if number < Term::AGENT_VARIABLES {
+            return Term::Other;
+        }
+        if number < Term::VARIABLES_END {
+            return Term::variable(number);
+        }
+        if number == Term::ABSENT {
+            return Term::Absent;
+        }
+        Term::Other
+    }
+
+    // An agent or a data object.
+    pub fn object(number: u16) -> Term
+        requires { ⌜ number < 32768 ⌝ }
+        ensures { λ r. ⌜ termMeant r ≡ classOf number ⌝ }
+    {
+        if number < Term::AGENTS_END {
+            return Term::Object(Sort::Agents);
+        }
+        Term::Object(Sort::Data)
+    }
+
+    // A parameter of either sort.
+    pub fn parameter(number: u16) -> Term
+        requires { ⌜ (32768 ≤ number) × (number < 32832) ⌝ }
+        ensures { λ r. ⌜ termMeant r ≡ classOf number ⌝ }
+    {
+        if number < Term::AGENT_PARAMETERS_END {
+            return Term::Parameter(Sort::Agents);
+        }
+        Term::Parameter(Sort::Data)
+    }
+
+    // A variable of either sort, with its number.
+    pub fn variable(number: u16) -> Term
+        requires { ⌜ (40960 ≤ number) × (number < 40976) ⌝ }
+        ensures { λ r. ⌜ termMeant r ≡ classOf number ⌝ }
+    {
+        if number < Term::DATA_VARIABLES {
+            return Term::Variable(Sort::Agents, number - Term::AGENT_VARIABLES);
+        }
+        Term::Variable(Sort::Data, number - Term::DATA_VARIABLES)
+    }
+}

@@ -1,0 +1,2 @@
+-- Laws of the definition.
+pub mod Order

@@ -1,0 +1,2 @@
+-- Laws that every layer cites.
+pub mod Checks
