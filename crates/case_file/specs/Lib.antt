@@ -3,6 +3,7 @@ pub mod Records
 pub mod Views
 pub mod Case
 pub mod Admission
+pub mod Alike
 pub mod Files
 pub mod Evaluation
 pub mod Examples

@@ -5,7 +5,7 @@ use mathlib.Core.List.{List, [], _∷_, _++_}
 use lib.ListN.{length, getD}
 use lib.Dec.{eqb, ltb, leb}
 use Rattle.words.specs.Words.{word, absent}
-use Rattle.words.specs.Ranges.{any, all}
+use Rattle.words.specs.Ranges.{any}
 use Rattle.formula_book.specs.Terms.{Sort, agents, data-objects, other, classOf, hasSort, isTerm}
 use Rattle.formula_book.specs.Formulas.{Formula, predicate, owns, says, and, for-all, implies, after, communicates, creates, user-action, no-formula, each-use, once, isPolicy, isAction, nodes, bound-variable, has}
 
@@ -141,9 +141,9 @@ fieldsFit l k r =
 unfoldable pub badFormula : List ℕ → List Formula → ℕ → Bool
 badFormula s l k = not (fieldsFit l k (rowAt s k)) || ltb 64 (nodes (treeIn l k))
 
-unfoldable pub sameRow : List ℕ → ℕ → ℕ → Bool
-sameRow s j k = all (λ i. eqb (getD s (rowBytes * j + i) 0) (getD s (rowBytes * k + i) 0)) rowBytes 0
+unfoldable pub sameRow : Row → Row → Bool
+sameRow q r = eqb (q .kind) (r .kind) && eqb (q .code) (r .code) && eqb (q .x) (r .x) && eqb (q .y) (r .y) && eqb (q .z) (r .z)
 
 -- Check 4: "repeats a lower row", place: row. "No row repeats another, so one meaning has one number."
 unfoldable pub repeatsLower : List ℕ → ℕ → Bool
-repeatsLower s k = any (λ j. sameRow s j k) k 0
+repeatsLower s k = any (λ j. sameRow (rowAt s j) (rowAt s k)) k 0

@@ -1,7 +1,10 @@
 pub mod Rules
 pub mod Steps
 pub mod Outcome
+pub mod Account
+pub mod Demands
 pub mod Evaluation
 pub mod Desk
 pub mod Traps
+pub mod Hidden
 pub mod Meanings

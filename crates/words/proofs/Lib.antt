@@ -1,2 +1,6 @@
 -- Laws that every layer cites.
+pub mod Tests
+pub mod Lists
+pub mod Windows
+pub mod Ranges
 pub mod Checks

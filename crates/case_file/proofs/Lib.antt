@@ -1,0 +1,6 @@
+-- Laws of case files.
+pub mod Spans
+pub mod Views
+pub mod Framed
+pub mod Same
+pub mod Struck

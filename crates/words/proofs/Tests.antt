@@ -1,0 +1,64 @@
+-- What a test made of `&&` and `||` says of its parts, and when a test that decides a fact fails. Assumes nothing.
+use Prim.Native.Nat.{ℕ, _<_}
+use mathlib.Core.Path.{_≡_, refl, sym, _∙_}
+use mathlib.Core.Bool.{Bool, true, false, not, _&&_, _||_, true≢false, false≢true, or-assoc}
+use native.Mathlib.Nat.{eq-or-lt-of-le}
+use lib.Dec.{ltb}
+use borrow.Author.Tests.{not-true, ltb-true, ltb-false}
+use mathlib.Core.Logic.{_↔_, _⊎_, inl, inr, ⊎-elim}
+
+pub and-true : (a b : Bool) → a && b ≡ true → (a ≡ true) × (b ≡ true)
+and-true true b e = (refl, e)
+and-true false b e = absurd (false≢true e)
+
+pub and-intro : {a b : Bool} → a ≡ true → b ≡ true → a && b ≡ true
+and-intro e f = rw (e, f)
+
+pub or-true : (a b : Bool) → a || b ≡ true → (a ≡ true) ⊎ (b ≡ true)
+or-true true b e = inl refl
+or-true false b e = inr e
+
+pub or-false : (a b : Bool) → a || b ≡ false → (a ≡ false) × (b ≡ false)
+or-false true b e = absurd (true≢false e)
+or-false false b e = (refl, e)
+
+pub or-intro-left : {a : Bool} (b : Bool) → a ≡ true → a || b ≡ true
+or-intro-left b e = rw e
+
+pub or-intro-right : (a : Bool) {b : Bool} → b ≡ true → a || b ≡ true
+or-intro-right true e = refl
+or-intro-right false e = e
+
+pub not-both : {a : Bool} → a ≡ true → a ≡ false → ⊥
+not-both e f = true≢false (sym e ∙ f)
+
+pub never-true : (a : Bool) → (a ≡ true → ⊥) → a ≡ false
+never-true true h = absurd (h refl)
+never-true false h = refl
+
+-- A test that says whether P says by `false` that P does not hold.
+pub refutes : {a : Bool} {P : Type 0} → ((a ≡ true) ↔ P) → ((a ≡ false) ↔ (P → ⊥))
+refutes {a} h = (λ e x. not-both (h .1 x) e, λ n. never-true a (λ e. n (h .0 e)))
+
+pub not-is : {a : Bool} {P : Type 0} → ((a ≡ true) ↔ P) → ((not a ≡ true) ↔ (P → ⊥))
+not-is {a} h = (λ e. refutes h .0 (not-true a e), λ n. rw (refutes h .1 n))
+
+-- Tests that say whether P and whether Q holds, joined.
+pub or-is : {a b : Bool} {P Q : Type 0} → ((a ≡ true) ↔ P) → ((b ≡ true) ↔ Q) → ((a || b ≡ true) ↔ (P ⊎ Q))
+or-is {a} {b} h k = (
+  λ e. ⊎-elim (λ x. inl (h .0 x)) (λ y. inr (k .0 y)) (or-true a b e),
+  ⊎-elim (λ x. or-intro-left b (h .1 x)) (λ y. or-intro-right a (k .1 y)),
+)
+
+pub or-is₃ :
+    {a b c : Bool} {P Q R : Type 0} → ((a ≡ true) ↔ P) → ((b ≡ true) ↔ Q) → ((c ≡ true) ↔ R) →
+    ((a || b || c ≡ true) ↔ (P ⊎ (Q ⊎ R)))
+or-is₃ {a} {b} {c} h k l = rw (or-assoc a b c) (or-is h (or-is k l))
+
+-- Of two numbers one is lower, or they are equal.
+pub trichotomy : (a b : ℕ) → (a < b) ⊎ ((a ≡ b) ⊎ (b < a))
+trichotomy a b = go (ltb a b) refl
+  where
+    go : (t : Bool) → ltb a b ≡ t → (a < b) ⊎ ((a ≡ b) ⊎ (b < a))
+    go true e = inl (ltb-true a b e)
+    go false e = inr (⊎-elim (λ q. inl (sym q)) (λ l. inr l) (eq-or-lt-of-le (ltb-false a b e)))
