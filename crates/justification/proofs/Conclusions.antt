@@ -2,7 +2,7 @@
 -- Assumes nothing.
 use Prim.Native.Nat.{ℕ}
 use mathlib.Core.Path.{_≡_, refl}
-use mathlib.Core.Bool.{Bool, true, false}
+use mathlib.Core.Bool.{Bool, true, false, cond}
 use mathlib.Core.Option.{none, some}
 use native.Mathlib.Omega.{arith}
 use lib.Dec.{eqb}
@@ -14,26 +14,18 @@ use Rattle.justification.specs.Account.{Concludes, told, made, Owes, tel
 none-some : {f : Formula} → none ≡ some f → ⊥
 none-some e = let z : _≡_ {A = ℕ} 0 1 = cc in omega arith
 
+-- what stands behind a test of two agents was given by it
+given : (x agent : ℕ) (g f : Formula) → cond (eqb x agent) (some g) none ≡ some f → (x ≡ agent) × (f ≡ g)
+given x agent g f e = go (eqb x agent) refl
+  where
+    go : (b : Bool) → eqb x agent ≡ b → (x ≡ agent) × (f ≡ g)
+    go true q = let gives : some g ≡ some f = rw q at e in (eqb-true x agent q, cc)
+    go false q = absurd (none-some (rw q at e))
+
 pub concludes : (agent : ℕ) (g f : Formula) → conclusion agent g ≡ some f → Concludes agent g f
 unfolding conclusion
-concludes agent (communicates x h z) f e = go (eqb z agent) refl
-  where
-    go : (b : Bool) → eqb z agent ≡ b → Concludes agent (communicates x h z) f
-    go true q =
-        let is : z ≡ agent = eqb-true z agent q in
-        let gives : some (says x h z) ≡ some f = rw q at e in
-        let f-is : f ≡ says x h agent = cc in
-        rw (f-is, is) told
-    go false q = absurd (none-some (rw q at e))
-concludes agent (creates x y) f e = go (eqb x agent) refl
-  where
-    go : (b : Bool) → eqb x agent ≡ b → Concludes agent (creates x y) f
-    go true q =
-        let is : x ≡ agent = eqb-true x agent q in
-        let gives : some (owns x y) ≡ some f = rw q at e in
-        let f-is : f ≡ owns agent y = cc in
-        rw (f-is, is) made
-    go false q = absurd (none-some (rw q at e))
+concludes agent (communicates x h z) f e = let q = given z agent (says x h z) f e in rw (q .1, q .0) told
+concludes agent (creates x y) f e = let q = given x agent (owns x y) f e in rw (q .1, q .0) made
 concludes agent (user-action c x y z) f e = absurd (none-some e)
 concludes agent (predicate c x y z) f e = absurd (none-some e)
 concludes agent (owns x y) f e = absurd (none-some e)
@@ -51,24 +43,8 @@ concluded {agent} made = rw (eq-eqb agent agent refl)
 
 pub owes : (agent : ℕ) (g f : Formula) → owed agent g ≡ some f → Owes agent g f
 unfolding owed
-owes agent (communicates x h z) f e = go (eqb x agent) refl
-  where
-    go : (b : Bool) → eqb x agent ≡ b → Owes agent (communicates x h z) f
-    go true q =
-        let is : x ≡ agent = eqb-true x agent q in
-        let gives : some (says x h z) ≡ some f = rw q at e in
-        let f-is : f ≡ says agent h z = cc in
-        rw (f-is, is) telling
-    go false q = absurd (none-some (rw q at e))
-owes agent (user-action c x y z) f e = go (eqb x agent) refl
-  where
-    go : (b : Bool) → eqb x agent ≡ b → Owes agent (user-action c x y z) f
-    go true q =
-        let is : x ≡ agent = eqb-true x agent q in
-        let gives : some (predicate c x y z) ≡ some f = rw q at e in
-        let f-is : f ≡ predicate c agent y z = cc in
-        rw (f-is, is) acting
-    go false q = absurd (none-some (rw q at e))
+owes agent (communicates x h z) f e = let q = given x agent (says x h z) f e in rw (q .1, q .0) telling
+owes agent (user-action c x y z) f e = let q = given x agent (predicate c x y z) f e in rw (q .1, q .0) acting
 owes agent (creates x y) f e = absurd (none-some e)
 owes agent (predicate c x y z) f e = absurd (none-some e)
 owes agent (owns x y) f e = absurd (none-some e)
