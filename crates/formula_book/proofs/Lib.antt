@@ -1,7 +1,10 @@
 -- What the proofs of several functions use.
 pub mod Classes
 pub mod Same
+pub mod SameRows
 pub mod Occurrences
 pub mod Data
+pub mod Places
 pub mod Trees
 pub mod OneNumber
+pub mod Walking

@@ -1,5 +1,13 @@
--- What the code's enums stand for: each case as the definition's.
+-- What the code's types stand for: each case as the definition's.
 use Rattle.formula_book.specs.Terms as definition
+use Rattle.formula_book.specs.Formulas as formulas
+use Rattle.formula_book.specs.Book as book
+use Rattle.formula_book.specs.Nodes as walks
+use Rattle.formula_book.specs.declared.rows.Row.{Row}
+use Rattle.formula_book.specs.declared.nodes.Node.{Node}
+use Rattle.formula_book.specs.declared.nodes.Node.the-variants as node
+use Rattle.formula_book.specs.declared.sought.Sought.{Sought}
+use Rattle.formula_book.specs.declared.sought.Sought.the-variants as sought
 use Rattle.formula_book.specs.declared.terms.Sort.{Sort}
 use Rattle.formula_book.specs.declared.terms.Sort.the-variants.{Agents, Data}
 use Rattle.formula_book.specs.declared.terms.Term.{Term}
@@ -15,3 +23,21 @@ termMeant (Parameter s) = definition.parameter (sortMeant s)
 termMeant (Variable s n) = definition.variable (sortMeant s) n
 termMeant Absent = definition.absent-term
 termMeant Other = definition.no-term
+
+unfoldable pub soughtMeant : Sought → formulas.Sought
+soughtMeant (sought.Term u) = formulas.this-term u
+soughtMeant sought.Parameter = formulas.any-parameter
+soughtMeant sought.DataVariable = formulas.data-variable
+soughtMeant sought.FreeVariable = formulas.free-variable
+soughtMeant (sought.Bound s) = formulas.bound-variable (sortMeant s)
+
+unfoldable pub rowMeant : Row → book.Row
+rowMeant r = record { kind = r .kind; code = r .code; x = r .x; y = r .y; z = r .z }
+
+unfoldable pub nodeMeant : Node → walks.Node
+nodeMeant (node.Leaf x y z) = walks.leaf x y z
+nodeMeant (node.Said x y z) = walks.said x y z
+nodeMeant (node.Pair x y) = walks.pair x y
+nodeMeant (node.Body x) = walks.body x
+nodeMeant (node.Duty x y) = walks.duty x y
+nodeMeant node.None = walks.no-node

@@ -1,12 +1,29 @@
 // Terms: what a number stands for.
 ghost use mathlib.Core.Path.{_≡_};
 ghost use Prim.Native.Nat.{_<_, _≤_};
-ghost use Rattle.formula_book.specs.Terms.{classOf};
-ghost use Rattle.formula_book.specs.Meanings.{termMeant};
+ghost use Rattle.formula_book.specs.Terms.{sameSort, classOf, isObject, isParameter, isVariable, isFree, isBound};
+ghost use Rattle.formula_book.specs.Meanings.{sortMeant, termMeant};
 
 pub enum Sort {
     Agents,
     Data,
+}
+
+impl Sort {
+    pub fn same(self, other: Sort) -> bool
+        ensures { λ r. ⌜ r ≡ sameSort (sortMeant self) (sortMeant other) ⌝ }
+    {
+        match self {
+            Sort::Agents => match other {
+                Sort::Agents => true,
+                Sort::Data => false,
+            },
+            Sort::Data => match other {
+                Sort::Agents => false,
+                Sort::Data => true,
+            },
+        }
+    }
 }
 
 pub enum Term {
@@ -87,5 +104,73 @@ impl Term {
             return Term::Variable(Sort::Agents, number - Term::AGENT_VARIABLES);
         }
         Term::Variable(Sort::Data, number - Term::DATA_VARIABLES)
+    }
+
+    // An agent, or a data object.
+    pub fn is_object(self, sort: Sort) -> bool
+        ensures { λ r. ⌜ r ≡ isObject (sortMeant sort) (termMeant self) ⌝ }
+    {
+        match self {
+            Term::Object(s) => sort.same(s),
+            Term::Parameter(_) => false,
+            Term::Variable(_, _) => false,
+            Term::Absent => false,
+            Term::Other => false,
+        }
+    }
+
+    pub fn is_parameter(self, sort: Sort) -> bool
+        ensures { λ r. ⌜ r ≡ isParameter (sortMeant sort) (termMeant self) ⌝ }
+    {
+        match self {
+            Term::Object(_) => false,
+            Term::Parameter(s) => sort.same(s),
+            Term::Variable(_, _) => false,
+            Term::Absent => false,
+            Term::Other => false,
+        }
+    }
+
+    pub fn is_variable(self, sort: Sort) -> bool
+        ensures { λ r. ⌜ r ≡ isVariable (sortMeant sort) (termMeant self) ⌝ }
+    {
+        match self {
+            Term::Object(_) => false,
+            Term::Parameter(_) => false,
+            Term::Variable(s, _) => sort.same(s),
+            Term::Absent => false,
+            Term::Other => false,
+        }
+    }
+
+    // A variable whose own binder is not among the `depth` nearest.
+    pub fn is_free(self, depth: usize) -> bool
+        ensures { λ r. ⌜ r ≡ isFree depth (termMeant self) ⌝ }
+    {
+        match self {
+            Term::Object(_) => false,
+            Term::Parameter(_) => false,
+            Term::Variable(_, n) => depth <= n as usize,
+            Term::Absent => false,
+            Term::Other => false,
+        }
+    }
+
+    // The variable of the sort with `depth` binders between it and its own.
+    pub fn is_bound(self, sort: Sort, depth: usize) -> bool
+        ensures { λ r. ⌜ r ≡ isBound (sortMeant sort) depth (termMeant self) ⌝ }
+    {
+        match self {
+            Term::Object(_) => false,
+            Term::Parameter(_) => false,
+            Term::Variable(s, n) => {
+                if sort.same(s) {
+                    return n as usize == depth;
+                }
+                false
+            }
+            Term::Absent => false,
+            Term::Other => false,
+        }
     }
 }

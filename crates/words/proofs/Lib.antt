@@ -4,3 +4,4 @@ pub mod Lists
 pub mod Windows
 pub mod Ranges
 pub mod Checks
+pub mod Shifts

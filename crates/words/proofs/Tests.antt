@@ -29,6 +29,13 @@ pub or-intro-right : (a : Bool) {b : Bool} → b ≡ true → a || b ≡ true
 or-intro-right true e = refl
 or-intro-right false e = e
 
+-- The answers of a test that returns at the first part that holds.
+pub either-first : {r a : Bool} (b : Bool) → r ≡ a → r ≡ true → true ≡ a || b
+either-first b e t = sym (or-intro-left b (sym e ∙ t))
+
+pub either-second : {r q a b : Bool} → r ≡ a → r ≡ false → q ≡ b → q ≡ a || b
+either-second e f q = rw (sym e ∙ f) q
+
 pub not-both : {a : Bool} → a ≡ true → a ≡ false → ⊥
 not-both e f = true≢false (sym e ∙ f)
 

@@ -1,0 +1,84 @@
+// Does what is looked for stand in a formula? A policy holds an action, and a communicated action holds a policy: the two walks call each other, the row number falling.
+use crate::nodes::Node;
+use crate::nodes::node_of;
+use crate::rows::row_at;
+use crate::sought::Sought;
+use crate::sought::is_sought;
+ghost use mathlib.Core.Path.{_≡_};
+ghost use mathlib.Core.Bool.{_||_};
+ghost use Rattle.formula_book.specs.Formulas.{isPolicy, isAction, isSought, has};
+ghost use Rattle.formula_book.specs.Book.{treeIn, book as trees};
+ghost use Rattle.formula_book.specs.Nodes.{WalkRow, Present};
+ghost use Rattle.formula_book.specs.Meanings.{soughtMeant};
+
+// One of two terms.
+fn two_have(w: Sought, depth: usize, x: u16, y: u16) -> bool
+    ensures { λ r. ⌜ r ≡ (isSought (soughtMeant w) depth x || isSought (soughtMeant w) depth y) ⌝ }
+{
+    if is_sought(w, depth, x) {
+        return true;
+    }
+    is_sought(w, depth, y)
+}
+
+// One of three terms.
+fn three_have(w: Sought, depth: usize, x: u16, y: u16, z: u16) -> bool
+    ensures { λ r. ⌜ r ≡ (isSought (soughtMeant w) depth x || isSought (soughtMeant w) depth y || isSought (soughtMeant w) depth z) ⌝ }
+{
+    if two_have(w, depth, x, y) {
+        return true;
+    }
+    is_sought(w, depth, z)
+}
+
+// Policy `row`, which stands under `depth` for-alls.
+pub fn policy_has(book: &[u8], w: Sought, depth: usize, row: usize) -> bool
+    requires { ⌜ WalkRow isPolicy (now book) row depth ⌝ }
+    requires { ⌜ Present (soughtMeant w) ⌝ }
+    ensures { λ r. ⌜ r ≡ has (soughtMeant w) depth (treeIn (trees (now (book .entry))) row) ⌝ }
+{
+    match node_of(row_at(book, row)) {
+        Node::Leaf(x, y, z) => three_have(w, depth, x, y, z),
+        Node::Said(x, y, z) => {
+            if two_have(w, depth, x, z) {
+                return true;
+            }
+            policy_has(book, w, depth, y as usize)
+        }
+        Node::Pair(x, y) => {
+            if policy_has(book, w, depth, x as usize) {
+                return true;
+            }
+            policy_has(book, w, depth, y as usize)
+        }
+        Node::Body(x) => policy_has(book, w, depth + 1, x as usize),
+        Node::Duty(x, y) => {
+            if action_has(book, w, depth, x as usize) {
+                return true;
+            }
+            policy_has(book, w, depth, y as usize)
+        }
+        Node::None => false,
+    }
+}
+
+// Action `row`, which stands under `depth` for-alls.
+pub fn action_has(book: &[u8], w: Sought, depth: usize, row: usize) -> bool
+    requires { ⌜ WalkRow isAction (now book) row depth ⌝ }
+    requires { ⌜ Present (soughtMeant w) ⌝ }
+    ensures { λ r. ⌜ r ≡ has (soughtMeant w) depth (treeIn (trees (now (book .entry))) row) ⌝ }
+{
+    match node_of(row_at(book, row)) {
+        Node::Leaf(x, y, z) => three_have(w, depth, x, y, z),
+        Node::Said(x, y, z) => {
+            if two_have(w, depth, x, z) {
+                return true;
+            }
+            policy_has(book, w, depth, y as usize)
+        }
+        Node::Pair(_, _) => false,
+        Node::Body(_) => false,
+        Node::Duty(_, _) => false,
+        Node::None => false,
+    }
+}
