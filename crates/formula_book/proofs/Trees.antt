@@ -14,7 +14,7 @@ use Rattle.words.specs.Words.{absent}
 use Rattle.words.proofs.Tests.{and-true, or-false}
 use Rattle.formula_book.specs.Terms.{agents, data-objects}
 use Rattle.formula_book.specs.Formulas.{Formula, predicate, owns, says, and, for-all, implies, after, communicates, creates, user-action, no-formula, each-use, once, isPolicy, isAction, nodes}
-use Rattle.formula_book.specs.Book.{Row, rowAt, bookRows, sortOfCode, treeIn, treeOf, grow, trees, book, termsFirst, inPlace, policyBelow, actionBelow, bindsOwnSort, agentAndData, agentPolicyAgent, twoPolicies, sortAndBody, actionAndPolicy, fieldsFit, badFormula}
+use Rattle.formula_book.specs.Book.{Row, rowAt, bookRows, sortOfCode, treeIn, treeOf, grow, trees, book, termsFirst, inPlace, policyBelow, actionBelow, bindsOwnSort, agentAndData, agentPolicyAgent, twoPolicies, sortAndBody, actionAndPolicy, fitTable, fieldsFit, badFormula}
 
 pub trees-length : (s : List ℕ) (n : ℕ) → length (trees s n) ≡ n
 unfolding trees grow
@@ -142,7 +142,7 @@ module _ (m l : List Formula) (k : ℕ) (low : (n : ℕ) → n < k → treeIn m 
   shape-at :
       (kind code x y z : ℕ) → let r : Row = record { kind = kind; code = code; x = x; y = y; z = z } in
       fieldsFit l k r ≡ true → treeIn l k ≡ treeOf m r → Shape l k r
-  unfolding fieldsFit treeOf twoPolicies actionAndPolicy policyBelow actionBelow
+  unfolding fieldsFit fitTable treeOf twoPolicies actionAndPolicy policyBelow actionBelow
   shape-at zero c x y z fit is = predicate-row refl fit is
   shape-at (suc zero) c x y z fit is = owns-row refl (agent-and-data l k _ fit) is
   shape-at (suc (suc zero)) c x y z fit is =
@@ -172,6 +172,14 @@ module _ (m l : List Formula) (k : ℕ) (low : (n : ℕ) → n < k → treeIn m 
       user-action-row refl (h .0) (h .1) is
   shape-at (suc (suc (suc (suc (suc (suc (suc (suc (suc (suc (suc n))))))))))) c x y z fit is = absurd (false≢true fit)
 
+-- A row whose fields fit, in a book.
+pub fit-shape : (s : List ℕ) (k : ℕ) → fieldsFit (book s) k (rowAt s k) ≡ true → k < bookRows s → Shape (book s) k (rowAt s k)
+unfolding book
+fit-shape s k fit inside =
+    let r = rowAt s k in
+    shape-at (trees s k) (book s) k (λ n. tree-lower s k n inside) (r .kind) (r .code) (r .x) (r .y) (r .z) fit
+    (tree-below s (bookRows s) k inside)
+
 -- A row that check 3 does not find bad.
 module _ (s : List ℕ) (k : ℕ) (good : badFormula s (book s) k ≡ false) where
   parts : (not (fieldsFit (book s) k (rowAt s k)) ≡ false) × (ltb 64 (nodes (treeIn (book s) k)) ≡ false)
@@ -182,9 +190,4 @@ module _ (s : List ℕ) (k : ℕ) (good : badFormula s (book s) k ≡ false) whe
   row-small = ltb-false 64 (nodes (treeIn (book s) k)) (parts .1)
 
   pub row-shape : k < bookRows s → Shape (book s) k (rowAt s k)
-  unfolding book
-  row-shape inside =
-      let r = rowAt s k in
-      shape-at (trees s k) (book s) k (λ n. tree-lower s k n inside) (r .kind) (r .code) (r .x) (r .y) (r .z)
-      (not-false (fieldsFit (book s) k r) (parts .0))
-      (tree-below s (bookRows s) k inside)
+  row-shape = fit-shape s k (not-false (fieldsFit (book s) k (rowAt s k)) (parts .0))

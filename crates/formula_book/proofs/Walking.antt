@@ -6,7 +6,8 @@ use mathlib.Core.Bool.{Bool, true, false, _||_, or-false}
 use mathlib.Core.List.{List}
 use native.Mathlib.Omega.{arith}
 use Rattle.words.proofs.Tests.{not-both}
-use Rattle.formula_book.specs.Formulas.{Formula, isPolicy, isAction, nodes, Sought, isSought, has}
+use Rattle.formula_book.specs.Terms.{Sort, classOf, isBound}
+use Rattle.formula_book.specs.Formulas.{Formula, isPolicy, isAction, nodes, Sought, bound-variable, isSought, has}
 use Rattle.formula_book.specs.Book.{Row, rowAt, treeIn, book, badFormula}
 use Rattle.formula_book.specs.Nodes.{Node, leaf, said, pair, body, duty, no-node, nodeOf, nodeTable, WalkRow, Present}
 use Rattle.formula_book.specs.Meanings.{rowMeant, nodeMeant}
@@ -22,7 +23,7 @@ pub data Children (l : List Formula) (k : ℕ) : Node → Type 0 where
   of-body : {x : ℕ} → Below isPolicy l k x → Children l k (body x)
   of-duty : {x y : ℕ} → Below isAction l k x → Below isPolicy l k y → Children l k (duty x y)
 
-shape-children : {l : List Formula} {k : ℕ} {r : Row} → Shape l k r → Children l k (nodeOf r)
+pub shape-children : {l : List Formula} {k : ℕ} {r : Row} → Shape l k r → Children l k (nodeOf r)
 unfolding nodeOf nodeTable
 shape-children (predicate-row e f t) = rw e of-leaf
 shape-children (owns-row e f t) = rw e of-leaf
@@ -81,6 +82,11 @@ shape-has w p d (once-row e f t) = rw (t, e)
 shape-has w p d (communicates-row e f t) = rw (t, e)
 shape-has w p d (creates-row e f t) = rw (t, e, f .rest, p d) (sym (or-false _))
 shape-has w p d (user-action-row e f g t) = rw (t, e)
+
+-- what may be looked for is not the absent term
+pub bound-present : (σ : Sort) → Present (bound-variable σ)
+unfolding isSought classOf isBound
+bound-present σ d = refl
 
 -- The same of a row that a walk is at, whose node is known.
 module _ {is : Formula → Bool} {s : List ℕ} {row depth : ℕ} (g : WalkRow is s row depth) where

@@ -119,11 +119,10 @@ sortAndBody l k r =
 unfoldable pub actionAndPolicy : List Formula → ℕ → Row → Bool
 actionAndPolicy l k r = eqb (r .code) 0 && actionBelow l k (r .x) && policyBelow l k (r .y) && eqb (r .z) absent
 
--- Are code and fields those that the row's kind has, as row k over the trees l? The kinds 0 to 10 in their order.
-unfoldable pub fieldsFit : List Formula → ℕ → Row → Bool
-fieldsFit l k r =
-    getD
-    (termsFirst (r .x ∷ r .y ∷ r .z ∷ [])
+-- What code and fields have to be for each of the kinds 0 to 10, in their order, as row k over the trees l.
+unfoldable pub fitTable : List Formula → ℕ → Row → List Bool
+fitTable l k r =
+    termsFirst (r .x ∷ r .y ∷ r .z ∷ [])
     ∷ agentAndData r
     ∷ agentPolicyAgent l k r
     ∷ twoPolicies l k r
@@ -134,8 +133,11 @@ fieldsFit l k r =
     ∷ agentPolicyAgent l k r
     ∷ agentAndData r
     ∷ (inPlace agents (r .x) && termsFirst (r .y ∷ r .z ∷ []))
-    ∷ [])
-    (r .kind) false
+    ∷ []
+
+-- Are code and fields those that the row's kind has?
+unfoldable pub fieldsFit : List Formula → ℕ → Row → Bool
+fieldsFit l k r = getD (fitTable l k r) (r .kind) false
 
 -- Check 3: "bad formula row", place: row. l are the trees of the book s.
 unfoldable pub badFormula : List ℕ → List Formula → ℕ → Bool

@@ -2,6 +2,9 @@ pub mod Terms
 pub mod Formulas
 pub mod DataSet
 pub mod Book
+pub mod Chains
 pub mod Occurrences
 pub mod Nodes
+pub mod Admission
 pub mod Meanings
+pub mod Exports

@@ -3,6 +3,9 @@ use Rattle.formula_book.specs.Terms as definition
 use Rattle.formula_book.specs.Formulas as formulas
 use Rattle.formula_book.specs.Book as book
 use Rattle.formula_book.specs.Nodes as walks
+use Rattle.formula_book.specs.Admission as answers
+use Rattle.formula_book.specs.declared.admission.Admission.{Admission}
+use Rattle.formula_book.specs.declared.admission.Admission.the-variants as answer
 use Rattle.formula_book.specs.declared.rows.Row.{Row}
 use Rattle.formula_book.specs.declared.nodes.Node.{Node}
 use Rattle.formula_book.specs.declared.nodes.Node.the-variants as node
@@ -41,3 +44,9 @@ nodeMeant (node.Pair x y) = walks.pair x y
 nodeMeant (node.Body x) = walks.body x
 nodeMeant (node.Duty x y) = walks.duty x y
 nodeMeant node.None = walks.no-node
+
+unfoldable pub answerMeant : Admission → answers.BookAnswer
+answerMeant (answer.Admitted n) = answers.admitted n
+answerMeant answer.Misshapen = answers.misshapen
+answerMeant (answer.BadRow k) = answers.bad-row k
+answerMeant (answer.Repeats k) = answers.repeated-row k

@@ -78,6 +78,15 @@ module _ (p : ℕ → Bool) where
           let r = rest (rw h at e) (omega arith) in
           (r .0, λ q from below. ⊎-elim (λ is. rw is at h) (λ up. r .1 q (omega arith) below) (eq-or-lt-of-le from))
 
+  -- The number at which the test holds, and below which it fails, is the lowest.
+  pub lowest-is : (left i j : ℕ) → i ≤ j → j < i + left → p j ≡ true → ((q : ℕ) → i ≤ q → q < j → p q ≡ false) → lowest p left i ≡ j
+  unfolding lowest
+  lowest-is zero i j from to e before = absurd (omega arith)
+  lowest-is (suc left) i j from to e before =
+      ⊎-elim (λ q. rw (rw (← q) at e) q)
+      (λ up. rw (before i (omega arith) up) (lowest-is left (i + 1) j (omega arith) (omega arith) e (λ q above below. before q (omega arith) below)))
+      (eq-or-lt-of-le from)
+
   pub lowest-none : (left i : ℕ) → ((j : ℕ) → i ≤ j → j < i + left → p j ≡ false) → lowest p left i ≡ i + left
   unfolding lowest
   lowest-none zero i none = omega arith

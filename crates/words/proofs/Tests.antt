@@ -1,10 +1,11 @@
 -- What a test made of `&&` and `||` says of its parts, and when a test that decides a fact fails. Assumes nothing.
-use Prim.Native.Nat.{ℕ, _<_}
+use Prim.Native.Nat.{ℕ, suc, _≤_, _<_}
 use mathlib.Core.Path.{_≡_, refl, sym, _∙_}
 use mathlib.Core.Bool.{Bool, true, false, not, _&&_, _||_, true≢false, false≢true, or-assoc}
 use native.Mathlib.Nat.{eq-or-lt-of-le}
+use native.Mathlib.Omega.{arith}
 use lib.Dec.{ltb}
-use borrow.Author.Tests.{not-true, ltb-true, ltb-false}
+use borrow.Author.Tests.{not-true, not-false, ltb-true, ltb-false}
 use mathlib.Core.Logic.{_↔_, _⊎_, inl, inr, ⊎-elim}
 
 pub and-true : (a b : Bool) → a && b ≡ true → (a ≡ true) × (b ≡ true)
@@ -35,6 +36,34 @@ either-first b e t = sym (or-intro-left b (sym e ∙ t))
 
 pub either-second : {r q a b : Bool} → r ≡ a → r ≡ false → q ≡ b → q ≡ a || b
 either-second e f q = rw (sym e ∙ f) q
+
+-- The answers of a test that returns at the first part that fails, of two parts and of four.
+pub fails : {r a : Bool} → r ≡ a → not r ≡ true → a ≡ false
+fails {r} e n = sym e ∙ not-true r n
+
+pub holds : {r a : Bool} → r ≡ a → not r ≡ false → a ≡ true
+holds {r} e n = sym e ∙ not-false r n
+
+pub both-first : {a : Bool} (b : Bool) → a ≡ false → false ≡ a && b
+both-first b e = rw e
+
+pub both-second : {r a b : Bool} → a ≡ true → r ≡ b → r ≡ a && b
+both-second e q = rw e q
+
+pub four-first : {a : Bool} (b c d : Bool) → a ≡ false → false ≡ a && b && c && d
+four-first b c d e = rw e
+
+pub four-second : (a : Bool) {b : Bool} (c d : Bool) → b ≡ false → false ≡ a && b && c && d
+four-second true c d e = rw e
+four-second false c d e = refl
+
+pub four-third : (a b : Bool) {c : Bool} (d : Bool) → c ≡ false → false ≡ a && b && c && d
+four-third true true d e = rw e
+four-third true false d e = refl
+four-third false b d e = refl
+
+pub four-last : {r a b c d : Bool} → a ≡ true → b ≡ true → c ≡ true → r ≡ d → r ≡ a && b && c && d
+four-last e f g q = rw (e, f, g) q
 
 pub not-both : {a : Bool} → a ≡ true → a ≡ false → ⊥
 not-both e f = true≢false (sym e ∙ f)
@@ -69,3 +98,11 @@ trichotomy a b = go (ltb a b) refl
     go : (t : Bool) → ltb a b ≡ t → (a < b) ⊎ ((a ≡ b) ⊎ (b < a))
     go true e = inl (ltb-true a b e)
     go false e = inr (⊎-elim (λ q. inl (sym q)) (λ l. inr l) (eq-or-lt-of-le (ltb-false a b e)))
+
+-- A number that is at least n and is not n is more; so one that is none of 0 to 10 is past them, as a match leaves it.
+up : {n k : ℕ} → n ≤ k → (k ≡ n → ⊥) → suc n ≤ k
+up le ne = omega arith
+
+pub past-ten : {A : Type 0} (k : ℕ) → (((((((((((A × (k ≡ 0 → ⊥)) × (k ≡ 1 → ⊥)) × (k ≡ 2 → ⊥)) × (k ≡ 3 → ⊥)) × (k ≡ 4 → ⊥)) × (k ≡ 5 → ⊥)) × (k ≡ 6 → ⊥)) × (k ≡ 7 → ⊥)) × (k ≡ 8 → ⊥)) × (k ≡ 9 → ⊥)) × (k ≡ 10 → ⊥)) → 11 ≤ k
+past-ten k h =
+    up (up (up (up (up (up (up (up (up (up (up (omega arith) (h .0 .0 .0 .0 .0 .0 .0 .0 .0 .0 .1)) (h .0 .0 .0 .0 .0 .0 .0 .0 .0 .1)) (h .0 .0 .0 .0 .0 .0 .0 .0 .1)) (h .0 .0 .0 .0 .0 .0 .0 .1)) (h .0 .0 .0 .0 .0 .0 .1)) (h .0 .0 .0 .0 .0 .1)) (h .0 .0 .0 .0 .1)) (h .0 .0 .0 .1)) (h .0 .0 .1)) (h .0 .1)) (h .1)

@@ -1,16 +1,11 @@
 -- `node_of` meets its contract: each arm is one entry of the definition's list, and the last what lies behind it. Assumes nothing.
-use Prim.Native.Nat.{suc, _≤_, ℕ}
-use mathlib.Core.Path.{_≡_, sym}
-use native.Mathlib.Omega.{arith}
+use mathlib.Core.Path.{sym}
+use Rattle.words.proofs.Tests.{past-ten}
 use lib.ListN.{List·getD-eq-default}
 use Rattle.formula_book.specs.Nodes.{no-node, nodeOf, nodeTable}
 use Rattle.formula_book.specs.Meanings.{rowMeant, nodeMeant}
 use Rattle.formula_book.proofs.nodes.node_of.Statement.{statement}
 use Rattle.formula_book.proofs.nodes.node_of.Tie as tie
-
--- a number that is at least n and is not n
-up : {n k : ℕ} → n ≤ k → (k ≡ n → ⊥) → suc n ≤ k
-up le ne = omega arith
 
 returns : tie.Need-returns
 unfolding nodeOf nodeTable rowMeant nodeMeant
@@ -58,8 +53,7 @@ returns-11 c = rw (c .match .keys11)
 
 returns-12 : tie.Need-returns-12
 unfolding nodeOf nodeTable rowMeant nodeMeant
-returns-12 c = let far : 11 ≤ c .before .args .row .kind =
-    (up (up (up (up (up (up (up (up (up (up (up (omega arith) (c .match .rest .0 .0 .0 .0 .0 .0 .0 .0 .0 .0 .1)) (c .match .rest .0 .0 .0 .0 .0 .0 .0 .0 .0 .1)) (c .match .rest .0 .0 .0 .0 .0 .0 .0 .0 .1)) (c .match .rest .0 .0 .0 .0 .0 .0 .0 .1)) (c .match .rest .0 .0 .0 .0 .0 .0 .1)) (c .match .rest .0 .0 .0 .0 .0 .1)) (c .match .rest .0 .0 .0 .0 .1)) (c .match .rest .0 .0 .0 .1)) (c .match .rest .0 .0 .1)) (c .match .rest .0 .1)) (c .match .rest .1)) in
+returns-12 c = let far = past-ten (c .before .args .row .kind) (c .match .rest) in
     sym (List·getD-eq-default (nodeTable (rowMeant (c .before .args .row))) no-node far)
 
 pub node-of-spec : {M : Type 1} → statement M

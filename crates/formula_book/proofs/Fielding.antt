@@ -1,0 +1,94 @@
+-- What the kind of a row that is not bad says of its tree, and how many nodes it has. By the eleven shapes. Assumes nothing.
+use Prim.Native.Nat.{ℕ, _+_, _≤_, _<_}
+use mathlib.Core.Path.{_≡_, refl, sym, ap, _∙_}
+use mathlib.Core.Bool.{true, false, not, _&&_, _||_}
+use mathlib.Core.List.{List}
+use native.Mathlib.Omega.{arith}
+use lib.Dec.{ltb, leb}
+use borrow.Author.Tests.{ltb-true, lt-ltb}
+use Rattle.words.proofs.Tests.{and-true}
+use Rattle.formula_book.specs.Formulas.{Formula, isPolicy, isAction, nodes}
+use Rattle.formula_book.specs.Book.{Row, rowAt, treeIn, book, bookRows, policyBelow, actionBelow, badFormula}
+use Rattle.formula_book.specs.Nodes.{Node, leaf, said, pair, body, duty, no-node, nodeOf, nodeTable, WalkRow}
+use Rattle.formula_book.specs.Admission.{GoodBelow}
+use Rattle.formula_book.specs.Meanings.{rowMeant}
+use Rattle.formula_book.specs.declared.rows.Row as rows
+use Rattle.formula_book.proofs.Trees.{Shape, predicate-row, owns-row, says-row, and-row, for-all-row, implies-row, each-use-row, once-row, communicates-row, creates-row, user-action-row, row-shape}
+
+shape-policy : {l : List Formula} {k : ℕ} {r : Row} → Shape l k r → isPolicy (treeIn l k) ≡ ltb (r .kind) 8
+unfolding isPolicy
+shape-policy (predicate-row e f t) = rw (t, e)
+shape-policy (owns-row e f t) = rw (t, e)
+shape-policy (says-row e f t) = rw (t, e)
+shape-policy (and-row e f t) = rw (t, e)
+shape-policy (for-all-row e f t) = rw (t, e)
+shape-policy (implies-row e f t) = rw (t, e)
+shape-policy (each-use-row e f t) = rw (t, e)
+shape-policy (once-row e f t) = rw (t, e)
+shape-policy (communicates-row e f t) = rw (t, e)
+shape-policy (creates-row e f t) = rw (t, e)
+shape-policy (user-action-row e f g t) = rw (t, e)
+
+shape-action : {l : List Formula} {k : ℕ} {r : Row} → Shape l k r → isAction (treeIn l k) ≡ leb 8 (r .kind)
+unfolding isAction
+shape-action (predicate-row e f t) = rw (t, e)
+shape-action (owns-row e f t) = rw (t, e)
+shape-action (says-row e f t) = rw (t, e)
+shape-action (and-row e f t) = rw (t, e)
+shape-action (for-all-row e f t) = rw (t, e)
+shape-action (implies-row e f t) = rw (t, e)
+shape-action (each-use-row e f t) = rw (t, e)
+shape-action (once-row e f t) = rw (t, e)
+shape-action (communicates-row e f t) = rw (t, e)
+shape-action (creates-row e f t) = rw (t, e)
+shape-action (user-action-row e f g t) = rw (t, e)
+
+-- the nodes of a row's tree, by its node
+unfoldable pub nodesOf : List Formula → Node → ℕ
+nodesOf l (leaf x y z) = 1
+nodesOf l (said x y z) = nodes (treeIn l y) + 1
+nodesOf l (pair x y) = nodes (treeIn l x) + nodes (treeIn l y) + 1
+nodesOf l (body x) = nodes (treeIn l x) + 1
+nodesOf l (duty x y) = nodes (treeIn l x) + nodes (treeIn l y) + 1
+nodesOf l no-node = 1
+
+pub shape-nodes : {l : List Formula} {k : ℕ} {r : Row} → Shape l k r → nodes (treeIn l k) ≡ nodesOf l (nodeOf r)
+unfolding nodes nodesOf nodeOf nodeTable
+shape-nodes (predicate-row e f t) = rw (t, e)
+shape-nodes (owns-row e f t) = rw (t, e)
+shape-nodes (says-row e f t) = rw (t, e)
+shape-nodes (and-row e f t) = rw (t, e)
+shape-nodes (for-all-row e f t) = rw (t, e)
+shape-nodes (implies-row e f t) = rw (t, e)
+shape-nodes (each-use-row e f t) = rw (t, e)
+shape-nodes (once-row e f t) = rw (t, e)
+shape-nodes (communicates-row e f t) = rw (t, e)
+shape-nodes (creates-row e f t) = rw (t, e)
+shape-nodes (user-action-row e f g t) = rw (t, e)
+
+module _ (s : List ℕ) (k : ℕ) (g : GoodBelow s k) where
+  shape-below : (n : ℕ) → n < k → Shape (book s) n (rowAt s n)
+  shape-below n lt = row-shape s n (g .good n lt) (omega (arith, g .inside))
+
+  pub policy-below : (n : ℕ) (r : rows.Row) → n < k → rowMeant r ≡ rowAt s n → ltb (r .kind) 8 ≡ policyBelow (book s) k n
+  unfolding policyBelow rowMeant
+  policy-below n r lt e =
+      rw (lt-ltb n k lt) (ap (λ (q : Row). ltb (q .kind) 8) e ∙ sym (shape-policy (shape-below n lt)))
+
+  pub action-below : (n : ℕ) (r : rows.Row) → n < k → rowMeant r ≡ rowAt s n → leb 8 (r .kind) ≡ actionBelow (book s) k n
+  unfolding actionBelow rowMeant
+  action-below n r lt e =
+      rw (lt-ltb n k lt) (ap (λ (q : Row). leb 8 (q .kind)) e ∙ sym (shape-action (shape-below n lt)))
+
+  -- a policy below row k may be walked
+  pub walk-below : (n : ℕ) → policyBelow (book s) k n ≡ true → WalkRow isPolicy s n 0
+  unfolding policyBelow
+  walk-below n e =
+      let h = and-true (ltb n k) (isPolicy (treeIn (book s) n)) e in
+      let lt = ltb-true n k (h .0) in
+      record {
+        good = λ j l. g .good j (omega arith);
+        inside = omega (arith, g .inside);
+        kind = h .1;
+        deep = omega (arith, g .few);
+      }
