@@ -12,3 +12,4 @@ pub mod Walking
 pub mod Fielding
 pub mod Sizing
 pub mod Answers
+pub mod DataWalking

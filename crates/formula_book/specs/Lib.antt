@@ -6,5 +6,6 @@ pub mod Chains
 pub mod Occurrences
 pub mod Nodes
 pub mod Admission
+pub mod DataWalk
 pub mod Meanings
 pub mod Exports

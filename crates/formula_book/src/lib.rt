@@ -1,6 +1,7 @@
 // The formula book: terms, formulas, and what the rules ask of them.
 mod admission;
 mod data_set;
+mod data_walk;
 mod exports;
 mod fields;
 mod nodes;
