@@ -5,6 +5,7 @@ use std::collections::BTreeSet;
 use conformance::builder::CaseFile;
 use conformance::cases::{examples, grant};
 use conformance::checker::{check, strike_unseen, Verdict, ABSENT};
+use conformance::random::Random;
 use conformance::vectors::{read, Vector};
 
 const BASE: &str = include_str!("../base.tsv");
@@ -120,18 +121,6 @@ fn shortest_rooms() {
             let refused = Verdict::Refused { number: 23, place: needed as u16 };
             assert_eq!(run(&vector.file, needed - 1), (refused, vec![PATTERN; needed - 1]));
         }
-    }
-}
-
-/// A small generator of numbers (xorshift), the same on each run.
-struct Random(u64);
-
-impl Random {
-    fn below(&mut self, bound: usize) -> usize {
-        self.0 ^= self.0 << 13;
-        self.0 ^= self.0 >> 7;
-        self.0 ^= self.0 << 17;
-        (self.0 >> 11) as usize % bound.max(1)
     }
 }
 
