@@ -13,3 +13,4 @@ pub mod Fielding
 pub mod Sizing
 pub mod Answers
 pub mod DataWalking
+pub mod Instancing

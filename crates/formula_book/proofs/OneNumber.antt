@@ -15,23 +15,23 @@ use Rattle.formula_book.specs.Book.{Row, rowAt, bookRows, sortOfCode, tr
 use Rattle.formula_book.proofs.Trees.{Shape, predicate-row, owns-row, says-row, and-row, for-all-row, implies-row, each-use-row, once-row, communicates-row, creates-row, user-action-row, row-shape}
 
 -- What a field stands for: itself, or the formula of that number.
-data Part : Type 0 where
+pub data Part : Type 0 where
   number : ℕ → Part
   formula : Formula → Part
 
 -- The fields of a formula's row.
-record Fields : Type 0 where
-  kind : ℕ
-  code : ℕ
-  x : Part
-  y : Part
-  z : ℕ
+pub record Fields : Type 0 where
+  pub kind : ℕ
+  pub code : ℕ
+  pub x : Part
+  pub y : Part
+  pub z : ℕ
 
-codeOf : Sort → ℕ
+pub codeOf : Sort → ℕ
 codeOf agents = 0
 codeOf data-objects = 1
 
-fieldsOf : Formula → Fields
+unfoldable pub fieldsOf : Formula → Fields
 fieldsOf (predicate c x y z) = record { kind = 0; code = c; x = number x; y = number y; z = z }
 fieldsOf (owns x y) = record { kind = 1; code = 0; x = number x; y = number y; z = absent }
 fieldsOf (says x f z) = record { kind = 2; code = 0; x = number x; y = formula f; z = z }
@@ -45,16 +45,16 @@ fieldsOf (user-action c x y z) = record { kind = 10; code = c; x = number x; y =
 fieldsOf no-formula = record { kind = 11; code = 0; x = number 0; y = number 0; z = 0 }
 
 -- The number n, in row k over the trees l, stands for the part.
-abbrev StandsFor : List Formula → ℕ → ℕ → Part → Type 0
+abbrev pub StandsFor : List Formula → ℕ → ℕ → Part → Type 0
 StandsFor l k n (number m) = n ≡ m
 StandsFor l k n (formula f) = (n < k) × (treeIn l n ≡ f)
 
-record Has (l : List Formula) (k : ℕ) (r : Row) (f : Fields) : Type 0 where
-  kind : r .kind ≡ f .kind
-  code : r .code ≡ f .code
-  x : StandsFor l k (r .x) (f .x)
-  y : StandsFor l k (r .y) (f .y)
-  z : r .z ≡ f .z
+pub record Has (l : List Formula) (k : ℕ) (r : Row) (f : Fields) : Type 0 where
+  pub kind : r .kind ≡ f .kind
+  pub code : r .code ≡ f .code
+  pub x : StandsFor l k (r .x) (f .x)
+  pub y : StandsFor l k (r .y) (f .y)
+  pub z : r .z ≡ f .z
 
 code-of : (c : ℕ) → c ≤ 1 → c ≡ codeOf (sortOfCode c)
 unfolding codeOf sortOfCode
@@ -62,7 +62,7 @@ code-of zero h = refl
 code-of (suc zero) h = refl
 code-of (suc (suc c)) h = absurd (omega arith)
 
-fields : {l : List Formula} {k : ℕ} {r : Row} → Shape l k r → Has l k r (fieldsOf (treeIn l k))
+pub fields : {l : List Formula} {k : ℕ} {r : Row} → Shape l k r → Has l k r (fieldsOf (treeIn l k))
 unfolding fieldsOf
 fields (predicate-row e h is) = rw is (record { kind = e; code = refl; x = refl; y = refl; z = refl })
 fields (owns-row e h is) = rw is (record { kind = e; code = h .code; x = refl; y = refl; z = h .rest })

@@ -7,5 +7,6 @@ pub mod Occurrences
 pub mod Nodes
 pub mod Admission
 pub mod DataWalk
+pub mod Instances
 pub mod Meanings
 pub mod Exports

@@ -4,6 +4,7 @@ mod data_set;
 mod data_walk;
 mod exports;
 mod fields;
+mod instances;
 mod nodes;
 mod occurs;
 mod repeats;

@@ -37,33 +37,19 @@ either-first b e t = sym (or-intro-left b (sym e ∙ t))
 pub either-second : {r q a b : Bool} → r ≡ a → r ≡ false → q ≡ b → q ≡ a || b
 either-second e f q = rw (sym e ∙ f) q
 
--- The answers of a test that returns at the first part that fails, of two parts and of four.
+-- A negated test that holds, and one that does not.
 pub fails : {r a : Bool} → r ≡ a → not r ≡ true → a ≡ false
 fails {r} e n = sym e ∙ not-true r n
 
 pub holds : {r a : Bool} → r ≡ a → not r ≡ false → a ≡ true
 holds {r} e n = sym e ∙ not-false r n
 
-pub both-first : {a : Bool} (b : Bool) → a ≡ false → false ≡ a && b
-both-first b e = rw e
+-- The answers of a test that returns at the first part that fails.
+pub both-first : {r a : Bool} (b : Bool) → r ≡ a → r ≡ false → false ≡ a && b
+both-first b e f = rw (sym e ∙ f)
 
-pub both-second : {r a b : Bool} → a ≡ true → r ≡ b → r ≡ a && b
-both-second e q = rw e q
-
-pub four-first : {a : Bool} (b c d : Bool) → a ≡ false → false ≡ a && b && c && d
-four-first b c d e = rw e
-
-pub four-second : (a : Bool) {b : Bool} (c d : Bool) → b ≡ false → false ≡ a && b && c && d
-four-second true c d e = rw e
-four-second false c d e = refl
-
-pub four-third : (a b : Bool) {c : Bool} (d : Bool) → c ≡ false → false ≡ a && b && c && d
-four-third true true d e = rw e
-four-third true false d e = refl
-four-third false b d e = refl
-
-pub four-last : {r a b c d : Bool} → a ≡ true → b ≡ true → c ≡ true → r ≡ d → r ≡ a && b && c && d
-four-last e f g q = rw (e, f, g) q
+pub both-second : {r q a b : Bool} → r ≡ a → r ≡ true → q ≡ b → q ≡ a && b
+both-second e t q = rw (sym e ∙ t) q
 
 pub not-both : {a : Bool} → a ≡ true → a ≡ false → ⊥
 not-both e f = true≢false (sym e ∙ f)
@@ -90,6 +76,17 @@ pub or-is₃ :
     {a b c : Bool} {P Q R : Type 0} → ((a ≡ true) ↔ P) → ((b ≡ true) ↔ Q) → ((c ≡ true) ↔ R) →
     ((a || b || c ≡ true) ↔ (P ⊎ (Q ⊎ R)))
 or-is₃ {a} {b} {c} h k l = rw (or-assoc a b c) (or-is h (or-is k l))
+
+pub and-is : {a b : Bool} {P Q : Type 0} → ((a ≡ true) ↔ P) → ((b ≡ true) ↔ Q) → ((a && b ≡ true) ↔ (P × Q))
+and-is {a} {b} h k = (
+  λ e. let p = and-true a b e in (h .0 (p .0), k .0 (p .1)),
+  λ p. and-intro (h .1 (p .0)) (k .1 (p .1)),
+)
+
+-- Two tests that say whether P give one answer.
+pub one-answer : (a : Bool) {b : Bool} {P : Type 0} → ((a ≡ true) ↔ P) → ((b ≡ true) ↔ P) → a ≡ b
+one-answer true h k = sym (k .1 (h .0 refl))
+one-answer false h k = sym (refutes k .1 (λ p. false≢true (h .1 p)))
 
 -- Of two numbers one is lower, or they are equal.
 pub trichotomy : (a b : ℕ) → (a < b) ⊎ ((a ≡ b) ⊎ (b < a))
