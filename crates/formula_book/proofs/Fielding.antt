@@ -1,15 +1,16 @@
 -- What the kind of a row that is not bad says of its tree, and how many nodes it has. By the eleven shapes. Assumes nothing.
-use Prim.Native.Nat.{ℕ, _+_, _≤_, _<_}
+use Prim.Native.Nat.{ℕ, _+_, _*_, _≤_, _<_}
 use mathlib.Core.Path.{_≡_, refl, sym, ap, _∙_}
-use mathlib.Core.Bool.{true, false, not, _&&_, _||_}
+use mathlib.Core.Bool.{Bool, true, false, not, _&&_, _||_}
 use mathlib.Core.List.{List}
+use lib.ListN.{length}
 use native.Mathlib.Omega.{arith}
 use lib.Dec.{ltb, leb}
-use borrow.Author.Tests.{ltb-true, lt-ltb}
+use borrow.Author.Tests.{ltb-true, lt-ltb, le-leb}
 use Rattle.words.proofs.Tests.{and-true}
 use Rattle.formula_book.specs.Formulas.{Formula, isPolicy, isAction, nodes}
 use Rattle.formula_book.specs.Book.{Row, rowAt, treeIn, book, bookRows, policyBelow, actionBelow, badFormula}
-use Rattle.formula_book.specs.Nodes.{Node, leaf, said, pair, body, duty, no-node, nodeOf, nodeTable, WalkRow}
+use Rattle.formula_book.specs.Nodes.{Node, leaf, said, pair, body, duty, no-node, nodeOf, nodeTable, WalkRow, GoodRow}
 use Rattle.formula_book.specs.Admission.{GoodBelow}
 use Rattle.formula_book.specs.Meanings.{rowMeant}
 use Rattle.formula_book.specs.declared.rows.Row as rows
@@ -92,3 +93,24 @@ module _ (s : List ℕ) (k : ℕ) (g : GoodBelow s k) where
         kind = h .1;
         deep = omega (arith, g .few);
       }
+
+-- a row of which callers may ask is a policy or an action, by its kind, and may be walked
+module _ (s : List ℕ) (row : ℕ) (g : GoodRow s row) where
+  shape-here : Shape (book s) row (rowAt s row)
+  shape-here = row-shape s row (g .good row (omega arith)) (g .inside)
+
+  walks : {is : Formula → Bool} → is (treeIn (book s) row) ≡ true → WalkRow is s row 0
+  walks e = record { good = g .good; inside = g .inside; kind = e; deep = omega (arith, g .few) }
+
+  pub policy-here : (r : rows.Row) → rowMeant r ≡ rowAt s row → r .kind < 8 → WalkRow isPolicy s row 0
+  unfolding rowMeant
+  policy-here r e lt = walks (shape-policy shape-here ∙ ap (λ (q : Row). ltb (q .kind) 8) (sym e) ∙ lt-ltb (r .kind) 8 lt)
+
+  pub action-here : (r : rows.Row) → rowMeant r ≡ rowAt s row → 8 ≤ r .kind → WalkRow isAction s row 0
+  unfolding rowMeant
+  action-here r e le = walks (shape-action shape-here ∙ ap (λ (q : Row). leb 8 (q .kind)) (sym e) ∙ le-leb 8 (r .kind) le)
+
+-- its eight bytes lie in the book
+pub good-inside : {s : List ℕ} {row : ℕ} → GoodRow s row → 8 * row + 8 ≤ length s
+unfolding bookRows
+good-inside g = omega (arith, g .inside)

@@ -11,6 +11,6 @@ pub mod OneNumber
 pub mod Walking
 pub mod Fielding
 pub mod Sizing
-pub mod Answers
+pub mod Replies
 pub mod DataWalking
 pub mod Instancing

@@ -6,8 +6,10 @@ use mathlib.Core.Bool.{Bool, true, false, _||_, or-false}
 use mathlib.Core.List.{List}
 use native.Mathlib.Omega.{arith}
 use Rattle.words.proofs.Tests.{not-both}
-use Rattle.formula_book.specs.Terms.{Sort, classOf, isBound}
-use Rattle.formula_book.specs.Formulas.{Formula, isPolicy, isAction, nodes, Sought, bound-variable, isSought, has}
+use borrow.Author.Tests.{ne-eqb}
+use Rattle.words.specs.Words.{absent}
+use Rattle.formula_book.specs.Terms.{Sort, classOf, isParameter, isVariable, isFree, isBound}
+use Rattle.formula_book.specs.Formulas.{Formula, isPolicy, isAction, nodes, Sought, this-term, any-parameter, data-variable, free-variable, bound-variable, isSought, has}
 use Rattle.formula_book.specs.Book.{Row, rowAt, treeIn, book, badFormula}
 use Rattle.formula_book.specs.Nodes.{Node, leaf, said, pair, body, duty, no-node, nodeOf, nodeTable, WalkRow, Present}
 use Rattle.formula_book.specs.Meanings.{rowMeant, nodeMeant}
@@ -87,6 +89,22 @@ shape-has w p d (user-action-row e f g t) = rw (t, e)
 pub bound-present : (σ : Sort) → Present (bound-variable σ)
 unfolding isSought classOf isBound
 bound-present σ d = refl
+
+pub free-present : Present free-variable
+unfolding isSought classOf isFree
+free-present d = refl
+
+pub parameter-present : Present any-parameter
+unfolding isSought classOf isParameter
+parameter-present d = refl
+
+pub data-variable-present : Present data-variable
+unfolding isSought classOf isVariable
+data-variable-present d = refl
+
+pub term-present : (u : ℕ) → (u ≡ absent → ⊥) → Present (this-term u)
+unfolding isSought
+term-present u h d = ne-eqb absent u (λ e. h (sym e))
 
 -- The same of a row that a walk is at, whose node is known.
 module _ {is : Formula → Bool} {s : List ℕ} {row depth : ℕ} (g : WalkRow is s row depth) where

@@ -43,6 +43,12 @@ pub record WalkRow (is : Formula → Bool) (s : List ℕ) (row depth : ℕ) : Ty
   pub kind : is (treeIn (book s) row) ≡ true
   pub deep : depth + row ≤ 65535
 
+-- A row of which callers may ask: no row up to it is bad.
+pub record GoodRow (s : List ℕ) (row : ℕ) : Type 0 where
+  pub good : (j : ℕ) → j ≤ row → badFormula s (book s) j ≡ false
+  pub inside : row < bookRows s
+  pub few : row ≤ 65535
+
 -- What is looked for is never the absent term.
 abbrev pub Present : Sought → Type 0
 Present w = (d : ℕ) → isSought w d absent ≡ false

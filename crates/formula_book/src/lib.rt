@@ -1,5 +1,6 @@
 // The formula book: terms, formulas, and what the rules ask of them.
 mod admission;
+mod answers;
 mod data_set;
 mod data_walk;
 mod exports;
@@ -14,7 +15,14 @@ mod terms;
 
 pub use admission::Admission;
 pub use admission::admit;
+pub use answers::formula_has;
+pub use answers::is_closed;
+pub use answers::is_ground;
+pub use data_walk::data_of;
+pub use instances::policy_instance;
 pub use rows::Row;
+pub use rows::row_at;
 pub use sought::Sought;
+pub use sought::is_instance;
 pub use terms::Sort;
 pub use terms::Term;

@@ -5,7 +5,7 @@ use mathlib.Core.Path.{_≡_, refl, ap, _∙_}
 use Rattle.formula_book.specs.Book.{bookRows}
 use Rattle.formula_book.specs.Admission.{admitted, bad-row, repeated-row, firstBad, firstRepeat}
 use Rattle.formula_book.specs.Meanings.{answerMeant}
-use Rattle.formula_book.proofs.Answers.{answer-ragged, answer-many, answer-bad, answer-repeat, answer-good}
+use Rattle.formula_book.proofs.Replies.{answer-ragged, answer-many, answer-bad, answer-repeat, answer-good}
 use Rattle.formula_book.proofs.admission.admit.Statement.{statement}
 use Rattle.formula_book.proofs.admission.admit.Tie as tie
 
