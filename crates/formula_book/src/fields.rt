@@ -66,9 +66,9 @@ fn action_below(book: &[u8], k: usize, n: u16) -> bool
     requires { ⌜ GoodBelow (now book) k ⌝ }
     ensures { λ r. ⌜ r ≡ actionBelow (trees (now (book .entry))) k n ⌝ }
 {
-    let at = n as usize;
-    if at < k {
-        let row = row_at(book, at);
+    let lower = n as usize;
+    if lower < k {
+        let row = row_at(book, lower);
         return 8 <= row.kind;
     }
     false
@@ -77,7 +77,7 @@ fn action_below(book: &[u8], k: usize, n: u16) -> bool
 fn agent_and_data(row: Row) -> bool
     ensures { λ r. ⌜ r ≡ agentAndData (rowMeant row) ⌝ }
 {
-    if row.code != 0 {
+    if 0 < row.code {
         return false;
     }
     if !has_sort(Sort::Agents, row.x) {

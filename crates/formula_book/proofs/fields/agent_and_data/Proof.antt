@@ -1,6 +1,10 @@
 -- `agent_and_data` meets its contract: the branches are its four tests, in order. Assumes nothing.
 use borrow.Author.Needs.{needs}
-use mathlib.Core.Bool.{and-false}
+use Prim.Native.Nat.{ℕ, _≤_, _<_}
+use mathlib.Core.Path.{_≡_}
+use mathlib.Core.Bool.{true, false, and-false}
+use lib.Dec.{eqb}
+use native.Mathlib.Omega.{arith}
 use borrow.Author.Tests.{eq-eqb, ne-eqb}
 use Rattle.words.proofs.Tests.{fails, holds}
 use Rattle.formula_book.specs.Book.{agentAndData, inPlace}
@@ -8,9 +12,15 @@ use Rattle.formula_book.specs.Meanings.{rowMeant, sortMeant}
 use Rattle.formula_book.proofs.fields.agent_and_data.Statement.{statement}
 use Rattle.formula_book.proofs.fields.agent_and_data.Tie as tie
 
+some-code : (n : ℕ) → 0 < n → eqb n 0 ≡ false
+some-code n lt = ne-eqb n 0 (λ e. omega (arith, lt, e))
+
+no-code : (n : ℕ) → n ≤ 0 → eqb n 0 ≡ true
+no-code n le = eq-eqb n 0 (omega (arith, le))
+
 returns : tie.Need-returns
 unfolding agentAndData inPlace rowMeant sortMeant
-returns c = rw (ne-eqb _ 0 (c .if1 .taken))
+returns c = rw (some-code _ (c .if1 .taken))
 
 has-sort-requires : tie.Need-has-sort-requires
 has-sort-requires c κs = search needs
@@ -28,7 +38,7 @@ returns-3 c = rw (fails (c .before .has-sort2 .ensures) (c .if3 .taken), and-fal
 
 returns-4 : tie.Need-returns-4
 unfolding agentAndData inPlace rowMeant sortMeant
-returns-4 c = rw (eq-eqb _ 0 (c .before .before .before .before .before .if1 .left), holds (c .before .before .before .before .has-sort .ensures) (c .before .before .before .if2 .left), holds (c .before .before .has-sort2 .ensures) (c .before .if3 .left))
+returns-4 c = rw (no-code _ (c .before .before .before .before .before .if1 .left), holds (c .before .before .before .before .has-sort .ensures) (c .before .before .before .if2 .left), holds (c .before .before .has-sort2 .ensures) (c .before .if3 .left))
 
 pub agent-and-data-spec : {M : Type 1} → statement M
 agent-and-data-spec =
