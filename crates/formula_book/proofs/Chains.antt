@@ -11,7 +11,6 @@ use lib.ListN.{length, getD, set, replicate, length-set}
 use lib.Dec.{eqb, ltb}
 use borrow.Author.Tests.{ltb-true, ltb-false, eqb-true, eqb-false}
 use lib.Seq.{getD-set-same, getD-set-other}
-use Rattle.words.specs.Ranges.{lowest}
 use Rattle.words.proofs.Tests.{not-both, never-true}
 use Rattle.words.proofs.Ranges.{any-some, any-none}
 use Rattle.formula_book.specs.Book.{Row, rowAt, sameRow, repeatsLower}

@@ -1,7 +1,7 @@
 -- What the kind of a row that is not bad says of its tree, and how many nodes it has. By the eleven shapes. Assumes nothing.
 use Prim.Native.Nat.{ℕ, _+_, _*_, _≤_, _<_}
-use mathlib.Core.Path.{_≡_, refl, sym, ap, _∙_}
-use mathlib.Core.Bool.{Bool, true, false, not, _&&_, _||_}
+use mathlib.Core.Path.{_≡_, sym, ap, _∙_}
+use mathlib.Core.Bool.{Bool, true}
 use mathlib.Core.List.{List}
 use lib.ListN.{length}
 use native.Mathlib.Omega.{arith}
@@ -9,7 +9,7 @@ use lib.Dec.{ltb, leb}
 use borrow.Author.Tests.{ltb-true, lt-ltb, le-leb}
 use Rattle.words.proofs.Tests.{and-true}
 use Rattle.formula_book.specs.Formulas.{Formula, isPolicy, isAction, nodes}
-use Rattle.formula_book.specs.Book.{Row, rowAt, treeIn, book, bookRows, policyBelow, actionBelow, badFormula}
+use Rattle.formula_book.specs.Book.{Row, rowAt, treeIn, book, bookRows, policyBelow, actionBelow}
 use Rattle.formula_book.specs.Nodes.{Node, leaf, said, pair, body, duty, no-node, nodeOf, nodeTable, WalkRow, GoodRow}
 use Rattle.formula_book.specs.Admission.{GoodBelow}
 use Rattle.formula_book.specs.Meanings.{rowMeant}

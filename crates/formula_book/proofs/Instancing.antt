@@ -73,7 +73,7 @@ same-user-action : (n m a b c x y z : ℕ) → n ≡ m → same (user-action n a
 same-user-action n m a b c x y z is = decided (user-action n a b c) (user-action m x y z) (three-is a b c x y z) (λ e. ((cc, cc), cc)) (λ h. cc)
 
 -- A row's tree by its kind.
-shape-tree : {l : List Formula} {k : ℕ} {r : Row} → Shape l k r → treeIn l k ≡ treeOf l r
+pub shape-tree : {l : List Formula} {k : ℕ} {r : Row} → Shape l k r → treeIn l k ≡ treeOf l r
 unfolding treeOf
 shape-tree (predicate-row e f t) = rw e t
 shape-tree (owns-row e f t) = rw e t

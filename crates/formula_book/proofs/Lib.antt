@@ -14,3 +14,4 @@ pub mod Sizing
 pub mod Replies
 pub mod DataWalking
 pub mod Instancing
+pub mod Laws

@@ -1,22 +1,20 @@
 -- The table of sizes: what a row's node says of the nodes of its tree, and how the table grows. Assumes nothing.
-use Prim.Native.Nat.{ℕ, suc, _+_, _≤_, _<_}
-use mathlib.Core.Path.{_≡_, refl, sym, ap, _∙_}
-use mathlib.Core.Bool.{Bool, true, false, not, cond, _||_}
+use Prim.Native.Nat.{ℕ, _+_, _≤_, _<_}
+use mathlib.Core.Path.{_≡_, refl, sym, _∙_}
+use mathlib.Core.Bool.{Bool, true, false}
 use mathlib.Core.Logic.{_⊎_, ⊎-elim}
 use mathlib.Core.List.{List}
 use native.Mathlib.Nat.{eq-or-lt-of-le, le-of-suc-le-suc}
 use native.Mathlib.Numerals.{add-one}
 use native.Mathlib.Omega.{arith}
-use lib.ListN.{length, getD, set, length-set}
+use lib.ListN.{length, set, length-set}
 use lib.Seq.{getD-set-same, getD-set-other}
-use lib.Dec.{ltb}
 use borrow.Author.Tests.{lt-ltb, le-ltb}
-use Rattle.words.proofs.Tests.{or-false, not-both}
 use Rattle.formula_book.specs.Formulas.{Formula, predicate, owns, says, and, for-all, implies, after, communicates, creates, user-action, no-formula, nodes}
-use Rattle.formula_book.specs.Book.{Row, rowAt, treeIn, book, bookRows, fieldsFit, badFormula}
-use Rattle.formula_book.specs.Nodes.{Node, leaf, said, pair, body, duty, no-node, nodeOf}
-use Rattle.formula_book.specs.Admission.{GoodBelow, Sizing, nodeSize, ChildrenBelow, sizeAt}
-use Rattle.formula_book.proofs.Trees.{Below, Shape, fit-shape}
+use Rattle.formula_book.specs.Book.{rowAt, treeIn, book, bookRows, fieldsFit, badFormula}
+use Rattle.formula_book.specs.Nodes.{Node, nodeOf}
+use Rattle.formula_book.specs.Admission.{Sizing, nodeSize, ChildrenBelow, sizeAt}
+use Rattle.formula_book.proofs.Trees.{fit-shape}
 use Rattle.formula_book.proofs.Walking.{Children, of-leaf, of-said, of-pair, of-body, of-duty, shape-children}
 use Rattle.formula_book.proofs.Fielding.{nodesOf, shape-nodes}
 

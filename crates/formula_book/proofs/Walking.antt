@@ -10,7 +10,7 @@ use borrow.Author.Tests.{ne-eqb}
 use Rattle.words.specs.Words.{absent}
 use Rattle.formula_book.specs.Terms.{Sort, classOf, isParameter, isVariable, isFree, isBound}
 use Rattle.formula_book.specs.Formulas.{Formula, isPolicy, isAction, nodes, Sought, this-term, any-parameter, data-variable, free-variable, bound-variable, isSought, has}
-use Rattle.formula_book.specs.Book.{Row, rowAt, treeIn, book, badFormula}
+use Rattle.formula_book.specs.Book.{Row, rowAt, treeIn, book}
 use Rattle.formula_book.specs.Nodes.{Node, leaf, said, pair, body, duty, no-node, nodeOf, nodeTable, WalkRow, Present}
 use Rattle.formula_book.specs.Meanings.{rowMeant, nodeMeant}
 use Rattle.formula_book.specs.declared.rows.Row as rows

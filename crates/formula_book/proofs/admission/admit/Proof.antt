@@ -1,9 +1,8 @@
 -- `admit` meets its contract: each return is one branch of the definition's answer. Assumes nothing.
 use borrow.Author.Needs.{needs}
-use Prim.Native.Nat.{_≤_, _<_}
-use mathlib.Core.Path.{_≡_, refl, ap, _∙_}
+use mathlib.Core.Path.{refl, ap, _∙_}
 use Rattle.formula_book.specs.Book.{bookRows}
-use Rattle.formula_book.specs.Admission.{admitted, bad-row, repeated-row, firstBad, firstRepeat}
+use Rattle.formula_book.specs.Admission.{bad-row, repeated-row, firstRepeat}
 use Rattle.formula_book.specs.Meanings.{answerMeant}
 use Rattle.formula_book.proofs.Replies.{answer-ragged, answer-many, answer-bad, answer-repeat, answer-good}
 use Rattle.formula_book.proofs.admission.admit.Statement.{statement}

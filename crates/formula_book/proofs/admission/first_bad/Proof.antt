@@ -1,5 +1,5 @@
 -- `first_bad` meets its contract: the rows passed are good, and the table has the nodes of their trees; a size of 0 tells the first bad row. Assumes nothing.
-use Prim.Native.Nat.{ℕ, _+_, _-_, _≤_, _<_}
+use Prim.Native.Nat.{ℕ, _-_, _≤_}
 use mathlib.Core.Path.{_≡_, refl, sym, _∙_}
 use mathlib.Core.List.{List}
 use native.Mathlib.Omega.{arith}

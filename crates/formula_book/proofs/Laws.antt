@@ -1,0 +1,96 @@
+-- What callers of this library may cite, and they cite this file alone: what `admit`'s answer says of the rows, a row's fields from its tree and the tree from its fields, one number for a tree, and what each answer about a formula says of it. Assumes nothing.
+use Prim.Native.Nat.{ℕ, _+_, _≤_, _<_, _%_}
+use mathlib.Core.Path.{_≡_, refl, sym, ap, _∙_}
+use mathlib.Core.Bool.{Bool, true, false, cond, not, false≢true}
+use mathlib.Core.List.{List}
+use lib.ListN.{length}
+use native.Mathlib.Omega.{arith}
+use lib.Dec.{eqb, ltb}
+use borrow.Author.Tests.{ltb-false}
+use Rattle.words.specs.Ranges.{lowest}
+use Rattle.words.proofs.Tests.{or-false}
+use Rattle.words.proofs.Ranges.{any-false, lowest-any}
+use Rattle.formula_book.specs.Formulas.{nodes}
+use Rattle.formula_book.specs.Book.{rowBytes, rowAt, bookRows, treeIn, treeOf, book, badFormula, repeatsLower}
+use Rattle.formula_book.specs.Nodes.{GoodRow}
+use Rattle.formula_book.specs.Admission.{BookAnswer, admitted, misshapen, bad-row, repeated-row, isMisshapen, firstBad, firstRepeat, bookAnswer}
+use Rattle.formula_book.proofs.Instancing.{shape-tree}
+use Rattle.formula_book.proofs.OneNumber.{fieldsOf, Has, fields, one-number}
+use Rattle.formula_book.proofs.Trees.{Shape, row-shape, row-small}
+pub use Rattle.formula_book.proofs.Same.{same-is, same-true, same-of, same-refl, same-false}
+pub use Rattle.formula_book.proofs.Occurrences.{has-true, mentions-is, mentions-not, closed-is, data-variable-is, policy-is, parameter-is, instance-is}
+pub use Rattle.formula_book.proofs.Data.{data-ascend, data-among}
+pub use Rattle.formula_book.proofs.Walking.{bound-present, free-present, parameter-present, data-variable-present, term-present}
+pub use Rattle.formula_book.proofs.Fielding.{policy-here, action-here, good-inside}
+
+isAdmitted : BookAnswer → Bool
+isAdmitted (admitted n) = true
+isAdmitted misshapen = false
+isAdmitted (bad-row k) = false
+isAdmitted (repeated-row k) = false
+
+-- The last of four answers.
+last : (m b r : Bool) (i j k n : ℕ) → cond m misshapen (cond b (bad-row i) (cond r (repeated-row j) (admitted k))) ≡ admitted n → (m ≡ false) × ((b ≡ false) × ((r ≡ false) × (k ≡ n)))
+unfolding isAdmitted
+last true b r i j k n e = absurd (false≢true (ap isAdmitted e))
+last false true r i j k n e = absurd (false≢true (ap isAdmitted e))
+last false false true i j k n e = absurd (false≢true (ap isAdmitted e))
+last false false false i j k n e = (refl, (refl, (refl, cc)))
+
+-- Where the lowest row that fails a test is beyond them all, none does.
+none-low : (p : ℕ → Bool) (count k : ℕ) → ltb (lowest p count 0) count ≡ false → k < count → p k ≡ false
+none-low p count k e below =
+    let all : 0 + count ≡ count = omega arith in
+    any-false p count 0 (sym (rw all at (lowest-any p count 0)) ∙ e) k (omega arith) (omega arith)
+
+-- The laws of an admitted book of n rows.
+module _ (s : List ℕ) (n : ℕ) (is : bookAnswer s ≡ admitted n) where
+  parts : (isMisshapen s ≡ false) × ((ltb (firstBad s) (bookRows s) ≡ false) × ((ltb (firstRepeat s) (bookRows s) ≡ false) × (bookRows s ≡ n)))
+  unfolding bookAnswer
+  parts = last (isMisshapen s) (ltb (firstBad s) (bookRows s)) (ltb (firstRepeat s) (bookRows s)) (firstBad s) (firstRepeat s) (bookRows s) n is
+
+  pub admitted-count : bookRows s ≡ n
+  admitted-count = parts .1 .1 .1
+
+  pub admitted-few : n ≤ 1024
+  unfolding isMisshapen
+  admitted-few = omega (arith, ltb-false 1024 (bookRows s) (or-false (not (eqb (length s % rowBytes) 0)) (ltb 1024 (bookRows s)) (parts .0) .1), admitted-count)
+
+  pub admitted-good : (k : ℕ) → k < n → badFormula s (book s) k ≡ false
+  unfolding firstBad
+  admitted-good k below = none-low (badFormula s (book s)) (bookRows s) k (parts .1 .0) (omega (arith, admitted-count))
+
+  pub admitted-once : (k : ℕ) → k < n → repeatsLower s k ≡ false
+  unfolding firstRepeat
+  admitted-once k below = none-low (repeatsLower s) (bookRows s) k (parts .1 .1 .0) (omega (arith, admitted-count))
+
+  pub admitted-row : (row : ℕ) → row < n → GoodRow s row
+  admitted-row row below =
+      record {
+        good = λ j le. admitted-good j (omega arith);
+        inside = omega (arith, admitted-count);
+        few = omega (arith, admitted-few);
+      }
+
+  -- Equal trees have equal numbers.
+  pub admitted-one-number : (j k : ℕ) → j < n → k < n → treeIn (book s) j ≡ treeIn (book s) k → j ≡ k
+  admitted-one-number j k j-in k-in =
+      one-number s (λ i below. admitted-good i (omega (arith, admitted-count))) (λ i below. admitted-once i (omega (arith, admitted-count))) j k
+      (omega (arith, admitted-count)) (omega (arith, admitted-count))
+
+-- The laws of a row that may be asked about.
+module _ (s : List ℕ) (row : ℕ) (g : GoodRow s row) where
+  -- its kind, with its fields and its tree
+  pub row-is : Shape (book s) row (rowAt s row)
+  row-is = row-shape s row (g .good row (omega arith)) (g .inside)
+
+  -- the fields from the tree
+  pub tree-row : Has (book s) row (rowAt s row) (fieldsOf (treeIn (book s) row))
+  tree-row = fields row-is
+
+  -- the tree from the fields
+  pub row-tree : treeIn (book s) row ≡ treeOf (book s) (rowAt s row)
+  row-tree = shape-tree row-is
+
+  pub row-nodes : nodes (treeIn (book s) row) ≤ 64
+  row-nodes = row-small s row (g .good row (omega arith))
