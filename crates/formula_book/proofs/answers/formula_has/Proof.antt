@@ -8,7 +8,7 @@ row-at-requires : tie.Need-row-at-requires
 row-at-requires c κs = good-inside (c .before .pre .0)
 
 policy-has-requires : tie.Need-policy-has-requires
-policy-has-requires c κs = 
+policy-has-requires c κs =
     let p = c .before .before .before .pre in
     (policy-here _ _ (p .0) (c .before .row-at .result) (c .before .row-at .ensures) (c .if1 .taken), p .1)
 
@@ -16,7 +16,7 @@ returns : tie.Need-returns
 returns c = search needs
 
 action-has-requires : tie.Need-action-has-requires
-action-has-requires c κs = 
+action-has-requires c κs =
     let p = c .before .before .before .pre in
     (action-here _ _ (p .0) (c .before .row-at .result) (c .before .row-at .ensures) (c .if1 .left), p .1)
 
