@@ -4,3 +4,4 @@ pub mod Views
 pub mod Framed
 pub mod Same
 pub mod Struck
+pub mod Parting

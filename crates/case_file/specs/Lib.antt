@@ -1,4 +1,5 @@
 pub mod Layout
+pub mod Parts
 pub mod Records
 pub mod Views
 pub mod Case

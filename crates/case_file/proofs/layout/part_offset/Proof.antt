@@ -1,8 +1,8 @@
 -- `case_file::part_offset` meets its contract: it reads the header where the definition does. Assumes nothing.
 use borrow.Author.Needs.{needs}
 use Rattle.case_file.specs.Layout.{offset}
-use Rattle.case_file.proofs.part_offset.Statement.{statement}
-use Rattle.case_file.proofs.part_offset.Tie as tie
+use Rattle.case_file.proofs.layout.part_offset.Statement.{statement}
+use Rattle.case_file.proofs.layout.part_offset.Tie as tie
 
 mul-read-word : tie.Need-mul-read-word
 mul-read-word c = search needs

@@ -1,8 +1,8 @@
 -- `case_file::part_size` meets its contract: it reads the header where the definition does. Assumes nothing.
 use borrow.Author.Needs.{needs}
 use Rattle.case_file.specs.Layout.{size}
-use Rattle.case_file.proofs.part_size.Statement.{statement}
-use Rattle.case_file.proofs.part_size.Tie as tie
+use Rattle.case_file.proofs.layout.part_size.Statement.{statement}
+use Rattle.case_file.proofs.layout.part_size.Tie as tie
 
 mul-read-word : tie.Need-mul-read-word
 mul-read-word c = search needs

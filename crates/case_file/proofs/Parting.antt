@@ -1,0 +1,164 @@
+-- A file that checks 1 and 2 let pass has its parts where the header says, whole. Assumes nothing.
+use Prim.Native.Nat.{ℕ, zero, suc, _+_, _*_, _-_, _/_, _%_, _≤_, _<_}
+use mathlib.Core.Path.{_≡_, sym, ap}
+use mathlib.Core.Bool.{Bool, true, false, not, _&&_, _||_, or-false as or-none}
+use mathlib.Core.List.{List}
+use mathlib.Core.Logic.{_⊎_, ⊎-elim}
+use native.Mathlib.Nat.{mul-le-mul-left, mul-div-le, mul-suc, eq-or-lt-of-le}
+use native.Mathlib.Omega.{arith}
+use lib.ListN.{length, take, drop}
+use lib.Dec.{eqb, ltb}
+use borrow.Author.Tests.{ltb-false, lt-ltb, le-ltb, eq-eqb, ne-eqb}
+use Rattle.words.specs.Words.{word}
+use Rattle.words.proofs.Tests.{or-false}
+use Rattle.words.proofs.Windows.{window-at, window-length}
+use Rattle.case_file.specs.Layout.{headerBytes, mostBytes, recordBytes, mostRecords, premise-part, observer-part, log-part, step-part, offset, size, end, count, part, held, field, dueOffset, badLength, orphans, faultyPart}
+use Rattle.case_file.specs.Parts.{Parted, isMisplaced}
+
+pub some-bytes : (p : ℕ) → 0 < recordBytes p
+unfolding recordBytes
+some-bytes zero = omega arith
+some-bytes (suc zero) = omega arith
+some-bytes (suc (suc zero)) = omega arith
+some-bytes (suc (suc (suc zero))) = omega arith
+some-bytes (suc (suc (suc (suc zero)))) = omega arith
+some-bytes (suc (suc (suc (suc (suc zero))))) = omega arith
+some-bytes (suc (suc (suc (suc (suc (suc zero)))))) = omega arith
+some-bytes (suc (suc (suc (suc (suc (suc (suc zero))))))) = omega arith
+some-bytes (suc (suc (suc (suc (suc (suc (suc (suc p)))))))) = omega arith
+
+-- Two bytes of a record lie in the bytes that the records have together.
+in-records : (r k i n : ℕ) → k < n / r → i + 2 ≤ r → r * k + i + 2 ≤ n
+in-records r k i n lt fits =
+    let up : r * suc k ≤ r * (n / r) = mul-le-mul-left r lt in
+    omega (arith, up, mul-div-le n r, mul-suc r k, fits)
+
+-- The four tests of `isMisplaced`, on the numbers that were read.
+module _ (s : List ℕ) (p o n r d m : ℕ) (o-is : o ≡ offset s p) (n-is : n ≡ size s p) (r-is : r ≡ recordBytes p) (d-is : d ≡ dueOffset s p) where
+  pub far : (o ≡ d → ⊥) → true ≡ isMisplaced s p
+  unfolding isMisplaced
+  far h = rw (← o-is, ← d-is, ne-eqb o d h)
+
+  module _ (due : o ≡ d) where
+    pub ragged : (n % r ≡ 0 → ⊥) → true ≡ isMisplaced s p
+    unfolding isMisplaced
+    ragged h = rw (← o-is, ← d-is, ← n-is, ← r-is, eq-eqb o d due, ne-eqb (n % r) 0 h)
+
+    module _ (whole : n % r ≡ 0) (m-is : m ≡ mostRecords p) where
+      pub many : m < n / r → true ≡ isMisplaced s p
+      unfolding isMisplaced count
+      many h = rw (← o-is, ← d-is, ← n-is, ← r-is, ← m-is, eq-eqb o d due, eq-eqb (n % r) 0 whole, lt-ltb m (n / r) h)
+
+      pub beyond : n / r ≤ m → ltb (length s) (o + n) ≡ isMisplaced s p
+      unfolding isMisplaced count end
+      beyond h = rw (← o-is, ← d-is, ← n-is, ← r-is, ← m-is, eq-eqb o d due, eq-eqb (n % r) 0 whole, le-ltb m (n / r) h)
+
+-- The bytes of a part, from the numbers that were read.
+pub part-is : (s : List ℕ) (p o n : ℕ) → o ≡ offset s p → n ≡ size s p → take (o + n - o) (drop o s) ≡ part s p
+unfolding part
+part-is s p o n e f =
+    let long : o + n - o ≡ n = omega arith in
+    rw (← e, ← f, long)
+
+-- The tests of check 2, first to last.
+pub misplaced-faulty : (s : List ℕ) (p : ℕ) → isMisplaced s p ≡ true → true ≡ faultyPart s p
+unfolding faultyPart isMisplaced
+misplaced-faulty s p e = rw e
+
+module _ (s : List ℕ) (p : ℕ) (e : isMisplaced s p ≡ false) where
+  pub end-faulty : p ≡ 7 → ltb (end s 7) (length s) ≡ true → true ≡ faultyPart s p
+  unfolding faultyPart isMisplaced
+  end-faulty is h = rw (e, eq-eqb p 7 is) (rw is (rw h))
+
+  pub last-faulty : p ≡ 7 → ltb (end s 7) (length s) ≡ false → orphans s 6 7 ≡ faultyPart s p
+  unfolding faultyPart isMisplaced
+  last-faulty is h = rw (e, eq-eqb p 7 is, ne-eqb p 2 (λ q. omega (arith, q, is))) (rw is (rw h))
+
+  pub observers-faulty : p ≡ 2 → orphans s 1 2 ≡ faultyPart s p
+  unfolding faultyPart isMisplaced
+  observers-faulty is = rw (e, ne-eqb p 7 (λ q. omega (arith, q, is)), eq-eqb p 2 is) (sym (or-none (orphans s 1 2)))
+
+  pub never-faulty : (p ≡ 7 → ⊥) → (p ≡ 2 → ⊥) → false ≡ faultyPart s p
+  unfolding faultyPart isMisplaced
+  never-faulty h k = rw (e, ne-eqb p 7 h, ne-eqb p 2 k)
+
+module _ (s : List ℕ) (g : Parted s) where
+  pub header-inside : headerBytes ≤ length s
+  unfolding badLength
+  header-inside = ltb-false (length s) headerBytes (or-false (ltb (length s) headerBytes) (ltb mostBytes (length s)) (g .long) .0)
+
+  file-few : length s ≤ mostBytes
+  unfolding badLength
+  file-few = ltb-false mostBytes (length s) (or-false (ltb (length s) headerBytes) (ltb mostBytes (length s)) (g .long) .1)
+
+  module _ (p : ℕ) (known : p < 8) where
+    placed : isMisplaced s p ≡ false
+    unfolding faultyPart isMisplaced
+    placed =
+        or-false (isMisplaced s p) (eqb p premise-part && ltb (end s p) (length s))
+        (or-false (isMisplaced s p || (eqb p premise-part && ltb (end s p) (length s))) (eqb p observer-part && orphans s log-part observer-part)
+        (or-false (isMisplaced s p || (eqb p premise-part && ltb (end s p) (length s)) || (eqb p observer-part && orphans s log-part observer-part)) (eqb p premise-part && orphans s step-part premise-part) (g .sound p known) .0) .0) .0
+
+    within : (not (eqb (offset s p) (dueOffset s p)) || not (eqb (size s p % recordBytes p) 0) || ltb (mostRecords p) (count s p) ≡ false) × (ltb (length s) (end s p) ≡ false)
+    unfolding isMisplaced
+    within = or-false (not (eqb (offset s p) (dueOffset s p)) || not (eqb (size s p % recordBytes p) 0) || ltb (mostRecords p) (count s p)) (ltb (length s) (end s p)) placed
+
+    pub part-inside : offset s p + size s p ≤ length s
+    unfolding end
+    part-inside = ltb-false (length s) (end s p) (within .1)
+
+    pub part-few : count s p ≤ mostRecords p
+    part-few =
+        ltb-false (mostRecords p) (count s p) (or-false (not (eqb (offset s p) (dueOffset s p)) || not (eqb (size s p % recordBytes p) 0)) (ltb (mostRecords p) (count s p)) (within .0) .1)
+
+    pub counted : (n r : ℕ) → n ≡ size s p → r ≡ recordBytes p → (n / r ≡ count s p) × (n / r ≤ mostRecords p)
+    unfolding count
+    counted n r e f =
+        let is : n / r ≡ size s p / recordBytes p = rw (e, f) in
+        (is, omega (arith, is, part-few))
+
+    pub part-length : length (part s p) ≡ size s p
+    unfolding part
+    part-length = window-length s (size s p) (offset s p) part-inside
+
+    -- The part has as many records as the header says.
+    pub held-count : held s p ≡ count s p
+    unfolding held count
+    held-count = ap (λ (n : ℕ). n / recordBytes p) part-length
+
+    module _ (k i : ℕ) (below : k < count s p) (fits : i + 2 ≤ recordBytes p) where
+      pub field-in : recordBytes p * k + i + 2 ≤ size s p
+      unfolding count
+      field-in = in-records (recordBytes p) k i (size s p) below fits
+
+      pub field-inside : offset s p + recordBytes p * k + i + 2 ≤ length s
+      field-inside = omega (arith, field-in, part-inside)
+
+      pub field-near : (o r : ℕ) → o ≡ offset s p → r ≡ recordBytes p → (o + r * k + i + 2 ≤ length s) × (o + r * k + i + 2 ≤ mostBytes)
+      field-near o r e f = rw (e, f) (field-inside, omega (arith, field-inside, file-few))
+
+      pub field-at : word s (offset s p + recordBytes p * k + i) ≡ field s p k i
+      unfolding field part word
+      field-at =
+          let at = recordBytes p * k + i in
+          let low = window-at s (size s p) (offset s p) at (omega (arith, field-in)) in
+          let high = window-at s (size s p) (offset s p) (at + 1) (omega (arith, field-in)) in
+          let here : offset s p + recordBytes p * k + i ≡ offset s p + at = omega arith in
+          let next : offset s p + at + 1 ≡ offset s p + (at + 1) = omega arith in
+          rw (low, high, here, next)
+
+      pub field-read : (o r : ℕ) → o ≡ offset s p → r ≡ recordBytes p → word s (o + r * k + i) ≡ field s p k i
+      field-read o r e f = rw (e, f) field-at
+
+-- No number below k fails the test: how a search for the lowest goes on.
+abbrev pub Passed : (ℕ → Bool) → ℕ → Type 0
+Passed fault k = (q : ℕ) → q < k → fault q ≡ false
+
+pub passed-none : (fault : ℕ → Bool) → Passed fault 0
+passed-none fault q below = absurd (omega arith)
+
+pub passed-more : (fault : ℕ → Bool) (k : ℕ) → Passed fault k → fault k ≡ false → Passed fault (k + 1)
+passed-more fault k h e q below = ⊎-elim (λ is. rw is e) (λ lt. h q lt) (eq-or-lt q k (omega arith))
+  where
+    eq-or-lt : (q k : ℕ) → q ≤ k → (q ≡ k) ⊎ (q < k)
+    eq-or-lt q k le = eq-or-lt-of-le le
