@@ -5,3 +5,8 @@ pub mod Framed
 pub mod Same
 pub mod Struck
 pub mod Parting
+pub mod Admitting
+pub mod Naming
+pub mod Faults
+pub mod Looking
+pub mod Seeing

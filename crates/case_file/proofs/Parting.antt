@@ -1,14 +1,13 @@
 -- A file that checks 1 and 2 let pass has its parts where the header says, whole. Assumes nothing.
 use Prim.Native.Nat.{ℕ, zero, suc, _+_, _*_, _-_, _/_, _%_, _≤_, _<_}
 use mathlib.Core.Path.{_≡_, sym, ap}
-use mathlib.Core.Bool.{Bool, true, false, not, _&&_, _||_, or-false as or-none}
+use mathlib.Core.Bool.{true, false, not, _&&_, _||_, or-false as or-none}
 use mathlib.Core.List.{List}
-use mathlib.Core.Logic.{_⊎_, ⊎-elim}
-use native.Mathlib.Nat.{mul-le-mul-left, mul-div-le, mul-suc, eq-or-lt-of-le}
+use native.Mathlib.Nat.{mul-le-mul-left, mul-div-le, mul-suc}
 use native.Mathlib.Omega.{arith}
 use lib.ListN.{length, take, drop}
 use lib.Dec.{eqb, ltb}
-use borrow.Author.Tests.{ltb-false, lt-ltb, le-ltb, eq-eqb, ne-eqb}
+use borrow.Author.Tests.{not-false, eqb-true, ltb-false, lt-ltb, le-ltb, eq-eqb, ne-eqb}
 use Rattle.words.specs.Words.{word}
 use Rattle.words.proofs.Tests.{or-false}
 use Rattle.words.proofs.Windows.{window-at, window-length}
@@ -111,6 +110,13 @@ module _ (s : List ℕ) (g : Parted s) where
     part-few =
         ltb-false (mostRecords p) (count s p) (or-false (not (eqb (offset s p) (dueOffset s p)) || not (eqb (size s p % recordBytes p) 0)) (ltb (mostRecords p) (count s p)) (within .0) .1)
 
+    pub part-whole : size s p % recordBytes p ≡ 0
+    part-whole =
+        eqb-true (size s p % recordBytes p) 0
+        (not-false (eqb (size s p % recordBytes p) 0)
+        (or-false (not (eqb (offset s p) (dueOffset s p))) (not (eqb (size s p % recordBytes p) 0))
+        (or-false (not (eqb (offset s p) (dueOffset s p)) || not (eqb (size s p % recordBytes p) 0)) (ltb (mostRecords p) (count s p)) (within .0) .0) .1))
+
     pub counted : (n r : ℕ) → n ≡ size s p → r ≡ recordBytes p → (n / r ≡ count s p) × (n / r ≤ mostRecords p)
     unfolding count
     counted n r e f =
@@ -149,16 +155,3 @@ module _ (s : List ℕ) (g : Parted s) where
 
       pub field-read : (o r : ℕ) → o ≡ offset s p → r ≡ recordBytes p → word s (o + r * k + i) ≡ field s p k i
       field-read o r e f = rw (e, f) field-at
-
--- No number below k fails the test: how a search for the lowest goes on.
-abbrev pub Passed : (ℕ → Bool) → ℕ → Type 0
-Passed fault k = (q : ℕ) → q < k → fault q ≡ false
-
-pub passed-none : (fault : ℕ → Bool) → Passed fault 0
-passed-none fault q below = absurd (omega arith)
-
-pub passed-more : (fault : ℕ → Bool) (k : ℕ) → Passed fault k → fault k ≡ false → Passed fault (k + 1)
-passed-more fault k h e q below = ⊎-elim (λ is. rw is e) (λ lt. h q lt) (eq-or-lt q k (omega arith))
-  where
-    eq-or-lt : (q k : ℕ) → q ≤ k → (q ≡ k) ⊎ (q < k)
-    eq-or-lt q k le = eq-or-lt-of-le le

@@ -2,6 +2,10 @@ pub mod Layout
 pub mod Parts
 pub mod Records
 pub mod Views
+pub mod Seen
+pub mod Meanings
+pub mod Answers
+pub mod Exports
 pub mod Case
 pub mod Admission
 pub mod Alike

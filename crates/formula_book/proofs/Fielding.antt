@@ -5,10 +5,10 @@ use mathlib.Core.Bool.{Bool, true}
 use mathlib.Core.List.{List}
 use lib.ListN.{length}
 use native.Mathlib.Omega.{arith}
-use lib.Dec.{ltb, leb}
+use lib.Dec.{eqb, ltb, leb}
 use borrow.Author.Tests.{ltb-true, lt-ltb, le-leb}
 use Rattle.words.proofs.Tests.{and-true}
-use Rattle.formula_book.specs.Formulas.{Formula, isPolicy, isAction, nodes}
+use Rattle.formula_book.specs.Formulas.{Formula, isPolicy, isAction, isPredicate, nodes}
 use Rattle.formula_book.specs.Book.{Row, rowAt, treeIn, book, bookRows, policyBelow, actionBelow}
 use Rattle.formula_book.specs.Nodes.{Node, leaf, said, pair, body, duty, no-node, nodeOf, nodeTable, WalkRow, GoodRow}
 use Rattle.formula_book.specs.Admission.{GoodBelow}
@@ -16,7 +16,7 @@ use Rattle.formula_book.specs.Meanings.{rowMeant}
 use Rattle.formula_book.specs.declared.rows.Row as rows
 use Rattle.formula_book.proofs.Trees.{Shape, predicate-row, owns-row, says-row, and-row, for-all-row, implies-row, each-use-row, once-row, communicates-row, creates-row, user-action-row, row-shape}
 
-shape-policy : {l : List Formula} {k : ℕ} {r : Row} → Shape l k r → isPolicy (treeIn l k) ≡ ltb (r .kind) 8
+pub shape-policy : {l : List Formula} {k : ℕ} {r : Row} → Shape l k r → isPolicy (treeIn l k) ≡ ltb (r .kind) 8
 unfolding isPolicy
 shape-policy (predicate-row e f t) = rw (t, e)
 shape-policy (owns-row e f t) = rw (t, e)
@@ -30,7 +30,7 @@ shape-policy (communicates-row e f t) = rw (t, e)
 shape-policy (creates-row e f t) = rw (t, e)
 shape-policy (user-action-row e f g t) = rw (t, e)
 
-shape-action : {l : List Formula} {k : ℕ} {r : Row} → Shape l k r → isAction (treeIn l k) ≡ leb 8 (r .kind)
+pub shape-action : {l : List Formula} {k : ℕ} {r : Row} → Shape l k r → isAction (treeIn l k) ≡ leb 8 (r .kind)
 unfolding isAction
 shape-action (predicate-row e f t) = rw (t, e)
 shape-action (owns-row e f t) = rw (t, e)
@@ -43,6 +43,20 @@ shape-action (once-row e f t) = rw (t, e)
 shape-action (communicates-row e f t) = rw (t, e)
 shape-action (creates-row e f t) = rw (t, e)
 shape-action (user-action-row e f g t) = rw (t, e)
+
+pub shape-predicate : {l : List Formula} {k : ℕ} {r : Row} → Shape l k r → isPredicate (treeIn l k) ≡ eqb (r .kind) 0
+unfolding isPredicate
+shape-predicate (predicate-row e f t) = rw (t, e)
+shape-predicate (owns-row e f t) = rw (t, e)
+shape-predicate (says-row e f t) = rw (t, e)
+shape-predicate (and-row e f t) = rw (t, e)
+shape-predicate (for-all-row e f t) = rw (t, e)
+shape-predicate (implies-row e f t) = rw (t, e)
+shape-predicate (each-use-row e f t) = rw (t, e)
+shape-predicate (once-row e f t) = rw (t, e)
+shape-predicate (communicates-row e f t) = rw (t, e)
+shape-predicate (creates-row e f t) = rw (t, e)
+shape-predicate (user-action-row e f g t) = rw (t, e)
 
 -- the nodes of a row's tree, by its node
 unfoldable pub nodesOf : List Formula → Node → ℕ

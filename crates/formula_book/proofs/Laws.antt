@@ -1,22 +1,25 @@
 -- What callers of this library may cite, and they cite this file alone: what `admit`'s answer says of the rows, a row's fields from its tree and the tree from its fields, one number for a tree, and what each answer about a formula says of it. Assumes nothing.
-use Prim.Native.Nat.{ℕ, _+_, _≤_, _<_, _%_}
+use Prim.Native.Nat.{ℕ, _+_, _-_, _≤_, _<_, _%_}
 use mathlib.Core.Path.{_≡_, refl, sym, ap, _∙_}
 use mathlib.Core.Bool.{Bool, true, false, cond, not, false≢true}
 use mathlib.Core.List.{List}
-use lib.ListN.{length}
+use lib.ListN.{length, List·getD-eq-default}
 use native.Mathlib.Omega.{arith}
-use lib.Dec.{eqb, ltb}
+use lib.Dec.{eqb, ltb, leb}
 use borrow.Author.Tests.{ltb-false}
+use Rattle.words.specs.Words.{absent}
 use Rattle.words.specs.Ranges.{lowest}
 use Rattle.words.proofs.Tests.{or-false}
 use Rattle.words.proofs.Ranges.{any-false, lowest-any}
-use Rattle.formula_book.specs.Formulas.{nodes}
-use Rattle.formula_book.specs.Book.{rowBytes, rowAt, bookRows, treeIn, treeOf, book, badFormula, repeatsLower}
+use Rattle.formula_book.specs.Terms.{agents, data-objects, object, parameter, variable, absent-term, no-term, classOf, isObject, sameSort}
+use Rattle.formula_book.specs.Formulas.{no-formula, isPolicy, isAction, isPredicate, nodes}
+use Rattle.formula_book.specs.Book.{rowBytes, rowAt, bookRows, treeIn, treeOf, trees, book, badFormula, repeatsLower}
 use Rattle.formula_book.specs.Nodes.{GoodRow}
 use Rattle.formula_book.specs.Admission.{BookAnswer, admitted, misshapen, bad-row, repeated-row, isMisshapen, firstBad, firstRepeat, bookAnswer}
 use Rattle.formula_book.proofs.Instancing.{shape-tree}
 use Rattle.formula_book.proofs.OneNumber.{fieldsOf, Has, fields, one-number}
-use Rattle.formula_book.proofs.Trees.{Shape, row-shape, row-small}
+use Rattle.formula_book.proofs.Trees.{Shape, trees-length, row-shape, row-small}
+use Rattle.formula_book.proofs.Fielding.{shape-policy, shape-action, shape-predicate}
 pub use Rattle.formula_book.proofs.Same.{same-is, same-true, same-of, same-refl, same-false}
 pub use Rattle.formula_book.proofs.Occurrences.{has-true, mentions-is, mentions-not, closed-is, data-variable-is, policy-is, parameter-is, instance-is}
 pub use Rattle.formula_book.proofs.Data.{data-ascend, data-among}
@@ -94,3 +97,37 @@ module _ (s : List ℕ) (row : ℕ) (g : GoodRow s row) where
 
   pub row-nodes : nodes (treeIn (book s) row) ≤ 64
   row-nodes = row-small s row (g .good row (omega arith))
+
+-- What a row's tree is, from its kind.
+module _ (s : List ℕ) (row : ℕ) (g : GoodRow s row) where
+  pub row-policy : isPolicy (treeIn (book s) row) ≡ ltb (rowAt s row .kind) 8
+  row-policy = shape-policy (row-is s row g)
+
+  pub row-action : isAction (treeIn (book s) row) ≡ leb 8 (rowAt s row .kind)
+  row-action = shape-action (row-is s row g)
+
+  pub row-predicate : isPredicate (treeIn (book s) row) ≡ eqb (rowAt s row .kind) 0
+  row-predicate = shape-predicate (row-is s row g)
+
+-- A number beyond the book names no formula.
+pub beyond : (s : List ℕ) (n k : ℕ) → bookAnswer s ≡ admitted n → n ≤ k → treeIn (book s) k ≡ no-formula
+unfolding book treeIn
+beyond s n k is le = List·getD-eq-default (trees s (bookRows s)) no-formula (omega (arith, trees-length s (bookRows s), admitted-count s n is))
+
+-- The agents are the numbers below 16,384.
+pub agent-is : (t : ℕ) → isObject agents (classOf t) ≡ ltb t 16384
+unfolding classOf isObject sameSort
+agent-is t = go (ltb t 16384) (ltb t 32768) (ltb t 32800) (ltb t 32832) (ltb t 40960) (ltb t 40968) (ltb t 40976) (eqb t absent)
+  where
+    go :
+        (a b c d e f g h : Bool) →
+        isObject agents (cond a (object agents) (cond b (object data-objects) (cond c (parameter agents) (cond d (parameter data-objects) (cond e no-term (cond f (variable agents (t - 40960)) (cond g (variable data-objects (t - 40968)) (cond h absent-term no-term)))))))) ≡ a
+    go true b c d e f g h = refl
+    go false true c d e f g h = refl
+    go false false true d e f g h = refl
+    go false false false true e f g h = refl
+    go false false false false true f g h = refl
+    go false false false false false true g h = refl
+    go false false false false false false true h = refl
+    go false false false false false false false true = refl
+    go false false false false false false false false = refl

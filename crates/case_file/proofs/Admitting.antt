@@ -1,0 +1,189 @@
+-- The answer to a file, branch by branch. Assumes nothing.
+use Prim.Native.Nat.{ℕ, _%_, _≤_, _<_}
+use mathlib.Core.Path.{_≡_, refl, sym, ap, _∙_}
+use mathlib.Core.Bool.{Bool, true, false, cond}
+use mathlib.Core.List.{List}
+use native.Mathlib.Omega.{arith}
+use lib.ListN.{length}
+use lib.Dec.{ltb}
+use borrow.Author.Tests.{ltb-false, lt-ltb, le-ltb, eq-eqb}
+use Rattle.words.proofs.Tests.{or-false}
+use Rattle.words.specs.Ranges.{lowest}
+use Rattle.words.specs.Checks.{Checked, accepts, refuses, _>>_, check, checkEach}
+use Rattle.words.proofs.Checks.{each-accepts, each-holds, check-holds, then-accepts, check-accepts, never-both}
+use Rattle.formula_book.specs.Book.{rowBytes, bookRows, badFormula, repeatsLower}
+use Rattle.formula_book.specs.Admission.{admitted, bad-row, repeated-row, isMisshapen, firstBad, firstRepeat, bookAnswer}
+use Rattle.case_file.specs.Layout.{headerBytes, mostBytes, formula-part, log-part, condition-part, obligation-part, label-part, recordBytes, mostRecords, part, count, held, badLength, faultyPart}
+use Rattle.case_file.specs.Records.{formulas, badLogRow, badCondition, badObligation, badLabel, badAudit}
+use Rattle.case_file.specs.Parts.{Parted, Booked}
+use Rattle.case_file.specs.Admission.{admission}
+use Rattle.case_file.specs.Answers.{firstChecks, recordChecks, bookRun, afterFirst, firstBadRow, rowsEntered}
+use Rattle.case_file.specs.Seen.{SeenUpTo}
+use Rattle.case_file.proofs.Parting.{part-length, part-whole, part-few, held-count}
+
+-- A check at each place, from the lowest at which it fails.
+module _ (n count k : ℕ) (fault : ℕ → Bool) (is : k ≡ lowest fault count 0) where
+  pub each-fails : k < count → checkEach n count fault ≡ refuses n k
+  unfolding checkEach check
+  each-fails h = rw (← is, lt-ltb k count h)
+
+  pub each-passes : count ≤ k → checkEach n count fault ≡ accepts tt
+  unfolding checkEach check
+  each-passes h = rw (← is, le-ltb k count h)
+
+-- Checks 1 and 2.
+module _ (s : List ℕ) where
+  pub refused-by-1 : badLength s ≡ true → refuses 1 0 ≡ firstChecks s
+  unfolding firstChecks check _>>_
+  refused-by-1 e = rw e
+
+  module _ (long : badLength s ≡ false) (p : ℕ) (is : p ≡ lowest (faultyPart s) 8 0) where
+    pub refused-by-2 : p < 8 → refuses 2 p ≡ firstChecks s
+    unfolding firstChecks check _>>_
+    refused-by-2 h = rw (long, each-fails 2 8 p (faultyPart s) is h)
+
+    pub parted : 8 ≤ p → Parted s
+    parted h = record { long = long; sound = each-accepts 2 8 (faultyPart s) (each-passes 2 8 p (faultyPart s) is h) }
+
+-- Checks 3 and 4, by the book's answer.
+book-answer : (x y : Bool) (i j n : ℕ) → bookRun (cond x (bad-row i) (cond y (repeated-row j) (admitted n))) ≡ _>>_ (check 3 i x) (check 4 j y)
+unfolding bookRun check _>>_
+book-answer true y i j n = refl
+book-answer false true i j n = refl
+book-answer false false i j n = refl
+
+module _ (s : List ℕ) (g : Parted s) where
+  rows-are : bookRows (part s formula-part) ≡ count s formula-part
+  unfolding bookRows held recordBytes
+  rows-are = held-count s g formula-part (omega arith)
+
+  shapely : isMisshapen (part s formula-part) ≡ false
+  unfolding isMisshapen recordBytes mostRecords
+  shapely =
+      let long = part-length s g formula-part (omega arith) in
+      let whole : length (part s formula-part) % rowBytes ≡ 0 = rw long (part-whole s g formula-part (omega arith)) in
+      rw (eq-eqb (length (part s formula-part) % rowBytes) 0 whole, le-ltb 1024 (bookRows (part s formula-part)) (omega (arith, rows-are, part-few s g formula-part (omega arith))))
+
+  book-run : bookRun (bookAnswer (part s formula-part)) ≡ _>>_ (checkEach 3 (count s formula-part) (badFormula (part s formula-part) (formulas s))) (checkEach 4 (count s formula-part) (repeatsLower (part s formula-part)))
+  unfolding bookAnswer firstBad firstRepeat checkEach formulas
+  book-run =
+      let b = part s formula-part in
+      rw (shapely, ← rows-are)
+      (book-answer (ltb (firstBad b) (bookRows b)) (ltb (firstRepeat b) (bookRows b)) (firstBad b) (firstRepeat b) (bookRows b))
+
+  pub answered-by-book : bookRun (bookAnswer (part s formula-part)) ≡ firstChecks s
+  unfolding firstChecks _>>_
+  answered-by-book = rw (check-holds 1 0 (g .long), each-holds 2 8 (faultyPart s) (g .sound)) book-run
+
+-- A file that is long enough has a header.
+pub long-header : (s : List ℕ) → badLength s ≡ false → headerBytes ≤ length s
+unfolding badLength
+long-header s e = ltb-false (length s) headerBytes (or-false (ltb (length s) headerBytes) (ltb mostBytes (length s)) e .0)
+
+-- Checks 5 to 9: at each, the lowest place where it fails and the number of places, as they were found.
+module _ (s : List ℕ) (k n : ℕ) (k-is : k ≡ firstBadRow s) (n-is : n ≡ count s log-part) where
+  pub refused-by-5 : k < n → refuses 5 k ≡ recordChecks s
+  unfolding recordChecks firstBadRow _>>_
+  refused-by-5 h = rw (each-fails 5 (count s log-part) k (badLogRow s (formulas s)) k-is (omega (arith, h, n-is)))
+
+  pub seen-there : {old new : List ℕ} → SeenUpTo s k old new → SeenUpTo s (firstBadRow s) old new
+  seen-there h = rw (← k-is) h
+
+  module _ (h : n ≤ k) where
+    passed-5 : checkEach 5 (count s log-part) (badLogRow s (formulas s)) ≡ accepts tt
+    unfolding firstBadRow
+    passed-5 = each-passes 5 (count s log-part) k (badLogRow s (formulas s)) k-is (omega (arith, h, n-is))
+
+    module _ (k6 n6 : ℕ) (k6-is : k6 ≡ lowest (badCondition s (formulas s)) (count s condition-part) 0) (n6-is : n6 ≡ count s condition-part) where
+      pub refused-by-6 : k6 < n6 → refuses 6 k6 ≡ recordChecks s
+      unfolding recordChecks _>>_
+      refused-by-6 q = rw (passed-5, each-fails 6 (count s condition-part) k6 (badCondition s (formulas s)) k6-is (omega (arith, q, n6-is)))
+
+      module _ (h6 : n6 ≤ k6) where
+        passed-6 : checkEach 6 (count s condition-part) (badCondition s (formulas s)) ≡ accepts tt
+        passed-6 = each-passes 6 (count s condition-part) k6 (badCondition s (formulas s)) k6-is (omega (arith, h6, n6-is))
+
+        module _ (k7 n7 : ℕ) (k7-is : k7 ≡ lowest (badObligation s (formulas s)) (count s obligation-part) 0) (n7-is : n7 ≡ count s obligation-part) where
+          pub refused-by-7 : k7 < n7 → refuses 7 k7 ≡ recordChecks s
+          unfolding recordChecks _>>_
+          refused-by-7 q = rw (passed-5, passed-6, each-fails 7 (count s obligation-part) k7 (badObligation s (formulas s)) k7-is (omega (arith, q, n7-is)))
+
+          module _ (h7 : n7 ≤ k7) where
+            passed-7 : checkEach 7 (count s obligation-part) (badObligation s (formulas s)) ≡ accepts tt
+            passed-7 = each-passes 7 (count s obligation-part) k7 (badObligation s (formulas s)) k7-is (omega (arith, h7, n7-is))
+
+            module _ (k8 n8 : ℕ) (k8-is : k8 ≡ lowest (badLabel s (formulas s)) (count s label-part) 0) (n8-is : n8 ≡ count s label-part) where
+              pub refused-by-8 : k8 < n8 → refuses 8 k8 ≡ recordChecks s
+              unfolding recordChecks _>>_
+              refused-by-8 q = rw (passed-5, passed-6, passed-7, each-fails 8 (count s label-part) k8 (badLabel s (formulas s)) k8-is (omega (arith, q, n8-is)))
+
+              module _ (h8 : n8 ≤ k8) (b : Bool) (b-is : b ≡ badAudit s (formulas s)) where
+                passed-8 : checkEach 8 (count s label-part) (badLabel s (formulas s)) ≡ accepts tt
+                passed-8 = each-passes 8 (count s label-part) k8 (badLabel s (formulas s)) k8-is (omega (arith, h8, n8-is))
+
+                pub refused-by-9 : b ≡ true → refuses 9 0 ≡ recordChecks s
+                unfolding recordChecks check _>>_
+                refused-by-9 e = rw (passed-5, passed-6, passed-7, passed-8, ← b-is, e)
+
+                pub passed-9 : b ≡ false → accepts tt ≡ recordChecks s
+                unfolding recordChecks check _>>_
+                passed-9 e = rw (passed-5, passed-6, passed-7, passed-8, ← b-is, e)
+
+-- The two halves together.
+halves : (a b c d e : Checked (Unit {0})) → _>>_ a (_>>_ b (_>>_ c (_>>_ d e))) ≡ _>>_ (_>>_ a (_>>_ b (_>>_ c d))) e
+unfolding _>>_
+halves (refuses n p) b c d e = refl
+halves (accepts x) (refuses n p) c d e = refl
+halves (accepts x) (accepts y) (refuses n p) d e = refl
+halves (accepts x) (accepts y) (accepts z) d e = refl
+
+in-halves : (s : List ℕ) → admission s ≡ _>>_ (firstChecks s) (recordChecks s)
+unfolding admission firstChecks recordChecks
+in-halves s =
+    halves (check 1 0 (badLength s)) (checkEach 2 8 (faultyPart s))
+    (checkEach 3 (count s formula-part) (badFormula (part s formula-part) (formulas s)))
+    (checkEach 4 (count s formula-part) (repeatsLower (part s formula-part)))
+    (recordChecks s)
+
+-- A file that checks 1 to 4 refuse.
+module _ (s : List ℕ) (n p : ℕ) (is : refuses n p ≡ firstChecks s) where
+  pub refused-first : refuses n p ≡ admission s
+  unfolding _>>_
+  refused-first = rw (in-halves s, ← is)
+
+  pub none-entered : (table : List ℕ) → SeenUpTo s (rowsEntered s) table table
+  unfolding rowsEntered afterFirst
+  none-entered table = rw (← is) (record { long = refl; low = λ k below. absurd (omega arith); rest = λ k from. refl })
+
+run-good : (x y : Bool) (i j n : ℕ) → bookRun (cond x (bad-row i) (cond y (repeated-row j) (admitted n))) ≡ accepts tt → cond x (bad-row i) (cond y (repeated-row j) (admitted n)) ≡ admitted n
+unfolding bookRun
+run-good true y i j n e = absurd (never-both (sym e))
+run-good false true i j n e = absurd (never-both (sym e))
+run-good false false i j n e = refl
+
+-- A file that they let pass.
+module _ (s : List ℕ) (is : accepts tt ≡ firstChecks s) where
+  pub first-passed : recordChecks s ≡ admission s
+  unfolding _>>_
+  first-passed = rw (in-halves s, ← is)
+
+  pub all-entered : {old new : List ℕ} → SeenUpTo s (firstBadRow s) old new → SeenUpTo s (rowsEntered s) old new
+  unfolding rowsEntered afterFirst
+  all-entered h = rw (← is) h
+
+  pub first-parted : Parted s
+  unfolding firstChecks
+  first-parted =
+      let one = then-accepts (check 1 0 (badLength s)) _ tt (sym is) in
+      let two = then-accepts (checkEach 2 8 (faultyPart s)) _ tt (one .1) in
+      record { long = check-accepts 1 0 (badLength s) (one .0 .1); sound = each-accepts 2 8 (faultyPart s) (two .0 .1) }
+
+  pub first-booked : (b : List ℕ) (n : ℕ) → b ≡ part s formula-part → n ≡ count s formula-part → Booked s b n
+  unfolding bookAnswer
+  first-booked b n b-is n-is =
+      let a = part s formula-part in
+      let run : bookRun (bookAnswer a) ≡ accepts tt = answered-by-book s first-parted ∙ sym is in
+      let good : bookAnswer a ≡ admitted (bookRows a) =
+      rw (shapely s first-parted)
+      (run-good (ltb (firstBad a) (bookRows a)) (ltb (firstRepeat a) (bookRows a)) (firstBad a) (firstRepeat a) (bookRows a) (rw (shapely s first-parted) at run)) in
+      record { is = b-is; passes = rw b-is (good ∙ ap admitted (rows-are s first-parted ∙ sym n-is)) }

@@ -1,0 +1,135 @@
+// Checks 6 to 9: the conditions, the obligations, the labels, and what is audited.
+use crate::layout::count_of;
+use crate::numbers::closed_action;
+use crate::numbers::closed_policy;
+use crate::numbers::ground_action;
+use crate::numbers::ground_predicate;
+use crate::records::action_of;
+use crate::records::agent_of;
+use crate::records::condition_formula;
+use crate::records::label_formula;
+use crate::records::label_mark;
+use crate::records::obligation_action;
+use crate::records::obligation_mark;
+use formula_book::Term;
+ghost use mathlib.Core.Path.{_≡_};
+ghost use Prim.Native.Nat.{_<_};
+ghost use Rattle.words.specs.Ranges.{lowest};
+ghost use Rattle.case_file.specs.Layout.{count, condition-part, obligation-part, label-part};
+ghost use Rattle.case_file.specs.Parts.{Parted, Booked};
+ghost use Rattle.case_file.specs.Records.{formulas as formulasOf, isDuty, badCondition, badObligation, badLabel, badAudit};
+
+// Check 6 of entry `k`. An absent condition is no fault.
+fn bad_condition(file: &[u8], book: &[u8], formulas: usize, k: usize) -> bool
+    requires { ⌜ Parted (now file) × Booked (now file) (now book) formulas ⌝ }
+    requires { ⌜ k < count (now file) condition-part ⌝ }
+    ensures { λ r. ⌜ r ≡ badCondition (now (file .entry)) (formulasOf (now (file .entry))) k ⌝ }
+{
+    let condition = condition_formula(file, k);
+    if condition == Term::ABSENT {
+        return false;
+    }
+    !ground_predicate(book, formulas, condition)
+}
+
+// Each use, or once.
+fn is_duty(mark: u16) -> bool
+    ensures { λ r. ⌜ r ≡ isDuty mark ⌝ }
+{
+    if mark == 1 {
+        return true;
+    }
+    mark == 2
+}
+
+// Check 7 of entry `k`.
+fn bad_obligation(file: &[u8], book: &[u8], formulas: usize, k: usize) -> bool
+    requires { ⌜ Parted (now file) × Booked (now file) (now book) formulas ⌝ }
+    requires { ⌜ k < count (now file) obligation-part ⌝ }
+    ensures { λ r. ⌜ r ≡ badObligation (now (file .entry)) (formulasOf (now (file .entry))) k ⌝ }
+{
+    let mark = obligation_mark(file, k);
+    if !is_duty(mark) {
+        return true;
+    }
+    let duty = obligation_action(file, k);
+    !ground_action(book, formulas, duty)
+}
+
+// Check 8 of entry `k`.
+fn bad_label(file: &[u8], book: &[u8], formulas: usize, k: usize) -> bool
+    requires { ⌜ Parted (now file) × Booked (now file) (now book) formulas ⌝ }
+    requires { ⌜ k < count (now file) label-part ⌝ }
+    ensures { λ r. ⌜ r ≡ badLabel (now (file .entry)) (formulasOf (now (file .entry))) k ⌝ }
+{
+    let mark = label_mark(file, k);
+    let formula = label_formula(file, k);
+    if mark == 0 {
+        return !closed_policy(book, formulas, formula);
+    }
+    if is_duty(mark) {
+        return !closed_action(book, formulas, formula);
+    }
+    true
+}
+
+// The first bad condition, or the number of conditions.
+pub fn first_bad_condition(file: &[u8], book: &[u8], formulas: usize) -> usize
+    requires { ⌜ Parted (now file) × Booked (now file) (now book) formulas ⌝ }
+    ensures { λ r. ⌜ r ≡ lowest (badCondition (now (file .entry)) (formulasOf (now (file .entry)))) (count (now (file .entry)) condition-part) 0 ⌝ }
+{
+    let n = count_of(file, 3);
+    let mut k: usize = 0;
+    while k < n {
+        if bad_condition(file, book, formulas, k) {
+            return k;
+        }
+        k += 1;
+    }
+    n
+}
+
+// The first bad obligation, or the number of obligations.
+pub fn first_bad_obligation(file: &[u8], book: &[u8], formulas: usize) -> usize
+    requires { ⌜ Parted (now file) × Booked (now file) (now book) formulas ⌝ }
+    ensures { λ r. ⌜ r ≡ lowest (badObligation (now (file .entry)) (formulasOf (now (file .entry)))) (count (now (file .entry)) obligation-part) 0 ⌝ }
+{
+    let n = count_of(file, 4);
+    let mut k: usize = 0;
+    while k < n {
+        if bad_obligation(file, book, formulas, k) {
+            return k;
+        }
+        k += 1;
+    }
+    n
+}
+
+// The first bad label, or the number of labels.
+pub fn first_bad_label(file: &[u8], book: &[u8], formulas: usize) -> usize
+    requires { ⌜ Parted (now file) × Booked (now file) (now book) formulas ⌝ }
+    ensures { λ r. ⌜ r ≡ lowest (badLabel (now (file .entry)) (formulasOf (now (file .entry)))) (count (now (file .entry)) label-part) 0 ⌝ }
+{
+    let n = count_of(file, 5);
+    let mut k: usize = 0;
+    while k < n {
+        if bad_label(file, book, formulas, k) {
+            return k;
+        }
+        k += 1;
+    }
+    n
+}
+
+// Check 9: is the agent no agent, or the action no ground action?
+pub fn bad_audit(file: &[u8], book: &[u8], formulas: usize) -> bool
+    requires { ⌜ Parted (now file) × Booked (now file) (now book) formulas ⌝ }
+    ensures { λ r. ⌜ r ≡ badAudit (now (file .entry)) (formulasOf (now (file .entry))) ⌝ }
+{
+    let agent = agent_of(file);
+    if Term::AGENTS_END <= agent {
+        return true;
+    }
+    let action = action_of(file);
+    !ground_action(book, formulas, action)
+}

@@ -1,0 +1,152 @@
+// The log rows: check 5, and the table of what the agent sees of each row.
+use crate::layout::count_of;
+use crate::numbers::ground_action;
+use crate::records::agent_of;
+use crate::records::bad_span;
+use crate::records::observer;
+use crate::records::row_action;
+use crate::records::row_count;
+use crate::records::row_from;
+use formula_book::Sort;
+use formula_book::Term;
+ghost use mathlib.Core.Path.{_≡_};
+ghost use mathlib.Core.List.{List};
+ghost use Prim.Native.Nat.{_+_, _<_, _≤_};
+ghost use lib.ListN.{length, getD};
+ghost use Rattle.words.specs.Ranges.{lowest};
+ghost use Rattle.formula_book.specs.Formulas.{Formula};
+ghost use Rattle.formula_book.specs.Book.{book as trees};
+ghost use Rattle.formula_book.specs.Admission.{admitted, bookAnswer};
+ghost use Rattle.case_file.specs.Layout.{log-part, observer-part, count};
+ghost use Rattle.case_file.specs.Records.{badLogRow, formulas as formulasOf};
+ghost use Rattle.case_file.specs.Parts.{Parted, Booked};
+ghost use Rattle.case_file.specs.Seen.{codeView, SeenUpTo, badAction, listAnswer, rowAnswer, dueFrom};
+ghost use Rattle.case_file.specs.Meanings.{listedMeant, toldMeant, viewMeant};
+
+// What a list of observers says of its row.
+enum Listed {
+    Faulty,
+    Unseen,
+    Seen,
+}
+
+// What a row comes to: a fault, or what the table has for it and where its span ends.
+enum Told {
+    Faulty,
+    As(u16, usize),
+}
+
+// What the agent sees of a row: nothing, that it is struck, or the action with this number.
+pub enum View {
+    Hidden,
+    Struck,
+    Shows(u16),
+}
+
+// What the table has for a hidden row. For any other it has the action's number.
+const HIDDEN: u16 = 65534;
+
+// Are the `len` observers from `from` on strictly ascending agents, and is the agent among them?
+fn look(file: &[u8], agent: u16, from: usize, len: usize) -> Listed
+    requires { ⌜ Parted (now file) ⌝ }
+    requires { ⌜ from + len ≤ count (now file) observer-part ⌝ }
+    ensures { λ r. ⌜ listedMeant r ≡ listAnswer (now (file .entry)) agent from len ⌝ }
+{
+    let end = from + len;
+    let mut least: usize = 0;
+    let mut seen = false;
+    let mut j = from;
+    while j < end {
+        let entry = observer(file, j);
+        if (entry as usize) < least {
+            return Listed::Faulty;
+        }
+        if !Term::of(entry).is_object(Sort::Agents) {
+            return Listed::Faulty;
+        }
+        if entry == agent {
+            seen = true;
+        }
+        least = entry as usize + 1;
+        j += 1;
+    }
+    if seen {
+        return Listed::Seen;
+    }
+    Listed::Unseen
+}
+
+// Is the number neither absent nor a ground action's?
+fn bad_action(book: &[u8], formulas: usize, action: u16) -> bool
+    requires { ⌜ bookAnswer (now book) ≡ admitted formulas ⌝ }
+    ensures { λ r. ⌜ r ≡ badAction (trees (now (book .entry))) action ⌝ }
+{
+    if action == Term::ABSENT {
+        return false;
+    }
+    !ground_action(book, formulas, action)
+}
+
+// What row `k` comes to. Its span is due to begin at `due`.
+fn tell_row(file: &[u8], book: &[u8], formulas: usize, due: usize, k: usize) -> Told
+    requires { ⌜ Parted (now file) × Booked (now file) (now book) formulas ⌝ }
+    requires { ⌜ (k < count (now file) log-part) × (due ≡ dueFrom (now file) k) ⌝ }
+    ensures { λ r. ⌜ toldMeant r ≡ rowAnswer (now (file .entry)) k ⌝ }
+{
+    let action = row_action(file, k);
+    if bad_action(book, formulas, action) {
+        return Told::Faulty;
+    }
+    let from = row_from(file, k) as usize;
+    let len = row_count(file, k) as usize;
+    let last = k + 1 == count_of(file, 1);
+    if bad_span(due, from, len, last, count_of(file, 2)) {
+        return Told::Faulty;
+    }
+    let agent = agent_of(file);
+    let listed = look(file, agent, from, len);
+    match listed {
+        Listed::Faulty => Told::Faulty,
+        Listed::Unseen => Told::As(HIDDEN, from + len),
+        Listed::Seen => Told::As(action, from + len),
+    }
+}
+
+// The lowest bad row, or the number of rows. The table's entry of each row below it becomes what the agent sees of the row; the others stay.
+pub fn see_rows(file: &[u8], book: &[u8], formulas: usize, views: &mut [u16; 1024]) -> usize
+    requires { ⌜ Parted (now file) × Booked (now file) (now book) formulas ⌝ }
+    requires { ⌜ length (now views) ≡ 1024 ⌝ }
+    ensures { λ r. ⌜ (r ≡ lowest (badLogRow (now (file .entry)) (formulasOf (now (file .entry)))) (count (now (file .entry)) log-part) 0) × SeenUpTo (now (file .entry)) r (now (views .entry)) (now (views .exit)) ⌝ }
+{
+    let n = count_of(file, 1);
+    let mut due: usize = 0;
+    let mut k: usize = 0;
+    while k < n {
+        match tell_row(file, book, formulas, due, k) {
+            Told::Faulty => {
+                return k;
+            }
+            Told::As(code, end) => {
+                views[k] = code;
+                due = end;
+            }
+        }
+        k += 1;
+    }
+    n
+}
+
+// What the agent sees of row `k`, by the table.
+pub fn view_at(views: &[u16; 1024], k: usize) -> View
+    requires { ⌜ (k < 1024) × (length (now views) ≡ 1024) ⌝ }
+    ensures { λ r. ⌜ ((l : List Formula) → viewMeant l r ≡ codeView l (getD (now (views .entry)) k 0)) ⌝ }
+{
+    let code = views[k];
+    if code == HIDDEN {
+        return View::Hidden;
+    }
+    if code == Term::ABSENT {
+        return View::Struck;
+    }
+    View::Shows(code)
+}
