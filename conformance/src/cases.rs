@@ -2,7 +2,7 @@
 
 use crate::builder::*;
 use crate::checker::{Verdict, ABSENT};
-use crate::vectors::Vector;
+use crate::vectors::{read, Vector};
 
 /// The entries the program lends.
 pub const ROOM: usize = 1_088;
@@ -194,4 +194,14 @@ fn passed(name: &str, case: CaseFile, obligations: &[u16], rows: &[u16]) -> Vect
     let verdict =
         Verdict::Passed { obligations: obligations.len() as u16, rows: rows.len() as u16 };
     Vector { written: [obligations, rows].concat(), ..vector(name, case, verdict) }
+}
+
+pub fn base_vectors() -> Vec<Vector> {
+    read(include_str!("../base.tsv")).expect("every line of base.tsv is a vector")
+}
+
+pub fn examples_and_vectors() -> Vec<Vector> {
+    let mut all = examples();
+    all.extend(base_vectors());
+    all
 }

@@ -104,3 +104,24 @@ pub fn fitting_book(random: &mut Random, count: usize) -> Vec<Row> {
     }
     book
 }
+
+/// Up to four bytes changed, mostly to near or telling values; one file in eight also cut.
+pub fn damage(file: &[u8], random: &mut Random) -> Vec<u8> {
+    let mut file = file.to_vec();
+    for _ in 0..=random.below(4) {
+        let at = random.below(file.len());
+        let value = match random.below(4) {
+            0 => random.below(256) as u8,
+            1 => 255,
+            2 => random.below(17) as u8,
+            _ => file.get(at).map_or(0, |byte| byte.wrapping_add(1)),
+        };
+        if let Some(byte) = file.get_mut(at) {
+            *byte = value;
+        }
+    }
+    if random.below(8) == 0 {
+        file.truncate(random.below(file.len() + 1));
+    }
+    file
+}

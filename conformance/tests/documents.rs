@@ -3,25 +3,13 @@
 use std::collections::BTreeSet;
 
 use conformance::builder::CaseFile;
-use conformance::cases::{examples, grant};
+use conformance::cases::{base_vectors, examples, examples_and_vectors, grant};
 use conformance::checker::{check, strike_unseen, Verdict, ABSENT};
-use conformance::random::Random;
-use conformance::vectors::{read, Vector};
-
-const BASE: &str = include_str!("../base.tsv");
+use conformance::random::{damage, Random};
+use conformance::vectors::Vector;
 
 /// A room starts full of this, so that an entry written shows.
 const PATTERN: u16 = 0xA5A5;
-
-fn base_vectors() -> Vec<Vector> {
-    read(BASE).expect("every line of base.tsv is a vector")
-}
-
-fn examples_and_vectors() -> Vec<Vector> {
-    let mut all = examples();
-    all.extend(base_vectors());
-    all
-}
 
 /// The verdict and the whole room after it.
 fn run(file: &[u8], entries: usize) -> (Verdict, Vec<u16>) {
@@ -122,27 +110,6 @@ fn shortest_rooms() {
             assert_eq!(run(&vector.file, needed - 1), (refused, vec![PATTERN; needed - 1]));
         }
     }
-}
-
-/// Up to four bytes changed, mostly to near or telling values; one file in eight also cut.
-fn damage(file: &[u8], random: &mut Random) -> Vec<u8> {
-    let mut file = file.to_vec();
-    for _ in 0..=random.below(4) {
-        let at = random.below(file.len());
-        let value = match random.below(4) {
-            0 => random.below(256) as u8,
-            1 => 255,
-            2 => random.below(17) as u8,
-            _ => file.get(at).map_or(0, |byte| byte.wrapping_add(1)),
-        };
-        if let Some(byte) = file.get_mut(at) {
-            *byte = value;
-        }
-    }
-    if random.below(8) == 0 {
-        file.truncate(random.below(file.len() + 1));
-    }
-    file
 }
 
 /// What holds of every answer, whatever the file.

@@ -187,3 +187,15 @@ module _ (s : List ℕ) (is : accepts tt ≡ firstChecks s) where
       rw (shapely s first-parted)
       (run-good (ltb (firstBad a) (bookRows a)) (ltb (firstRepeat a) (bookRows a)) (firstBad a) (firstRepeat a) (bookRows a) (rw (shapely s first-parted) at run)) in
       record { is = b-is; passes = rw b-is (good ∙ ap admitted (rows-are s first-parted ∙ sym n-is)) }
+
+-- What an admitted file has passed.
+module _ (s : List ℕ) (is : admission s ≡ accepts tt) where
+  both-halves : ((x : Unit {0}) × (firstChecks s ≡ accepts x)) × (recordChecks s ≡ accepts tt)
+  both-halves = then-accepts (firstChecks s) (recordChecks s) tt (sym (in-halves s) ∙ is)
+
+  pub admitted-first : accepts tt ≡ firstChecks s
+  admitted-first = sym (both-halves .0 .1)
+
+  pub admitted-rows : (k : ℕ) → k < count s log-part → badLogRow s (formulas s) k ≡ false
+  unfolding recordChecks
+  admitted-rows = each-accepts 5 (count s log-part) (badLogRow s (formulas s)) (then-accepts (checkEach 5 (count s log-part) (badLogRow s (formulas s))) _ tt (both-halves .1) .0 .1)

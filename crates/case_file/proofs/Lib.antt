@@ -10,3 +10,4 @@ pub mod Naming
 pub mod Faults
 pub mod Looking
 pub mod Seeing
+pub mod Laws
