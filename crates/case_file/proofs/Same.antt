@@ -9,7 +9,8 @@ use Rattle.case_file.specs.Records.{formulas, conditionFormula, obligati
 use Rattle.case_file.specs.Views.{rowView}
 use Rattle.case_file.specs.Case.{reading, caseOf}
 use Rattle.case_file.specs.Alike.{Alike}
-use Rattle.case_file.proofs.Framed.{Framed, same-count}
+use Rattle.case_file.proofs.Framed.{same-count}
+use Rattle.case_file.specs.Parts.{Parted}
 use Rattle.case_file.proofs.Views.{views-alike}
 
 -- A part's fields are read from its bytes alone.
@@ -31,7 +32,7 @@ pub record Same (s t : List ℕ) : Type 0 where
   pub audit : badAudit s ≡ badAudit t
   pub case : caseOf s ≡ caseOf t
 
-module _ (s t : List ℕ) (f : Framed s) (g : Framed t) (a : Alike s t) where
+module _ (s t : List ℕ) (f : Parted s) (g : Parted t) (a : Alike s t) where
   same-trees : formulas s ≡ formulas t
   unfolding formulas
   same-trees = rw (a .formulas)

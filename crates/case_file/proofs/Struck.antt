@@ -19,7 +19,9 @@ use Rattle.case_file.specs.Layout.{headerBytes, formula-part, log-part, 
 use Rattle.case_file.specs.Records.{rowAction, rowFrom, rowCount, observer, badSpan, isGroundAction, badObserver, badLogRow}
 use Rattle.case_file.specs.Views.{isSeen, inUnseenAction, struckFrom, strike}
 use Rattle.case_file.specs.Alike.{RowAlike, Alike}
-use Rattle.case_file.proofs.Framed.{Framed, log-start, behind-log, ends}
+use Rattle.case_file.proofs.Framed.{log-start, behind-log}
+use Rattle.case_file.proofs.Parting.{part-inside}
+use Rattle.case_file.specs.Parts.{Parted}
 use Rattle.case_file.proofs.Same.{same-field}
 
 struck-length : (s bs : List ℕ) (i : ℕ) → length (struckFrom s bs i) ≡ length bs
@@ -55,10 +57,10 @@ module _ (s : List ℕ) where
   of-unseen : (k at : ℕ) → at / 6 ≡ k → isSeen s k ≡ false → at % 6 < 2 → at < size s log-part → inUnseenAction s (offset s log-part + at) ≡ true
   of-unseen k at is e l h = rw (in-log at, is, e, lt-ltb at (size s log-part) h, lt-ltb (at % 6) 2 l)
 
-module _ (s : List ℕ) (f : Framed s) where
+module _ (s : List ℕ) (f : Parted s) where
   strikes : strike s ≡ struckFrom s s 0
   unfolding strike
-  strikes = rw (f .sized, any-none (faultyPart s) 8 0 (λ k _ h. f .parts k h))
+  strikes = rw (f .long, any-none (faultyPart s) 8 0 (λ k _ h. f .sound k h))
 
   same-length : length (strike s) ≡ length s
   same-length = rw strikes (struck-length s s 0)
@@ -89,16 +91,16 @@ module _ (s : List ℕ) (f : Framed s) where
   unfolding size
   same-size p h = header-word (4 * p + 6) (omega arith)
 
-  pub framed-struck : Framed (strike s)
+  pub framed-struck : Parted (strike s)
   unfolding badLength faultyPart dueOffset end count orphans
   framed-struck =
       record {
-        sized = rw same-length (f .sized);
-        parts =
+        long = rw same-length (f .long);
+        sound =
             λ p h.
             rw
             (same-offset p h, same-size p h, same-offset (p - 1) (omega arith), same-size (p - 1) (omega arith), same-size 1 (omega arith), same-size 2 (omega arith), same-size 6 (omega arith), same-size 7 (omega arith), same-length)
-            (f .parts p h);
+            (f .sound p h);
       }
 
   -- Byte i of a part is kept where the file's byte there is.
@@ -152,7 +154,7 @@ module _ (s : List ℕ) (f : Framed s) where
   struck-byte : (k at : ℕ) → at / 6 ≡ k → isSeen s k ≡ false → at % 6 < 2 → at < size s log-part → getD (part (strike s) log-part) at 0 ≡ 255
   unfolding part end
   struck-byte k at is e l h =
-      let fits = ends s f log-part (omega arith) in
+      let fits = part-inside s f log-part (omega arith) in
       let o = offset s log-part in
       rw (same-offset log-part (omega arith), same-size log-part (omega arith))
       (window-at (strike s) (size s log-part) o at h ∙ rw (of-unseen s k at is e l h) at (byte (o + at) (omega arith)))

@@ -14,7 +14,7 @@ use Rattle.formula_book.specs.Formulas.{Formula}
 use Rattle.case_file.specs.Layout.{mostRecords, condition-part, log-part, obligation-part, label-part}
 use Rattle.case_file.specs.Case.{Case, caseOf}
 use Rattle.case_file.specs.Admission.{admission}
-use Rattle.case_file.proofs.Framed.{admitted-framed, few}
+use Rattle.case_file.proofs.Laws.{admitted-parted, part-few}
 use Rattle.justification.specs.Steps.{Labels, startState, next, premisesOf, isAnObligation}
 use Rattle.justification.specs.Outcome.{passed, Finding, justified, nothing-owed, owes, lastStep, needed, dischargedList, citedList, finding, report, outcome}
 use Rattle.justification.specs.Account.{Account}
@@ -129,12 +129,12 @@ module _ (c : Case) (f : Formula) (small : Small c) (a : Account c f) where
 case-small : (s : List ℕ) → admission s ≡ accepts tt → Small (caseOf s)
 unfolding caseOf mostRecords
 case-small s e =
-    let f = admitted-framed s e in
+    let f = admitted-parted s e in
     record {
-      conditions = omega (arith, few s f condition-part (omega arith));
-      rows = omega (arith, few s f log-part (omega arith));
-      obligations = omega (arith, few s f obligation-part (omega arith));
-      labels = omega (arith, few s f label-part (omega arith));
+      conditions = omega (arith, part-few s f condition-part (omega arith));
+      rows = omega (arith, part-few s f log-part (omega arith));
+      obligations = omega (arith, part-few s f obligation-part (omega arith));
+      labels = omega (arith, part-few s f label-part (omega arith));
     }
 
 pub passes-exactly : PassesExactly

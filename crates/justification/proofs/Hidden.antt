@@ -18,7 +18,7 @@ use Rattle.case_file.specs.Records.{formulas, badLogRow, badCondition, badOblig
 use Rattle.case_file.specs.Views.{strike}
 use Rattle.case_file.specs.Case.{caseOf}
 use Rattle.case_file.specs.Alike.{Alike}
-use Rattle.case_file.proofs.Framed.{Framed}
+use Rattle.case_file.specs.Parts.{Parted}
 use Rattle.case_file.proofs.Same.{Same, same}
 use Rattle.case_file.proofs.Struck.{framed-struck, alike-struck, rows-stay-good}
 use Rattle.justification.specs.Outcome.{Finding, finding, noProof, needlessProof, owes, ending, report, outcome}
@@ -45,9 +45,9 @@ rest s room =
     (_>>_ (check 9 0 (badAudit s (formulas s)))
     (_>>_ (check 10 0 (noProof (caseOf s))) (_>>_ (check 11 0 (needlessProof (caseOf s))) (ending (owes (caseOf s)) (caseOf s) room))))))
 
-from-third : (s : List ℕ) (room : ℕ) → Framed s → finding s room ≡ _>>_ (third s) (_>>_ (fourth s) (_>>_ (fifth s) (rest s room)))
+from-third : (s : List ℕ) (room : ℕ) → Parted s → finding s room ≡ _>>_ (third s) (_>>_ (fourth s) (_>>_ (fifth s) (rest s room)))
 unfolding finding _>>_ check
-from-third s room f = rw (f .sized, each-any 2, any-none (faultyPart s) 8 0 (λ p _ h. f .parts p h), each-any 5)
+from-third s room f = rw (f .long, each-any 2, any-none (faultyPart s) 8 0 (λ p _ h. f .sound p h), each-any 5)
 
 module _ (s room : List ℕ) (w : WellMade s room) where
   -- A refusal by 1, 2 or 5 would be the outcome's.
@@ -65,8 +65,8 @@ module _ (s room : List ℕ) (w : WellMade s room) where
       eq-false-eq-not-eq-true (any (faultyPart s) 8 0) .0
       (λ e. never 2 (lowest (faultyPart s) 8 0) (inr (inl refl)) (rw (sized, each-any 2, e)))
 
-  framed : Framed s
-  framed = record { sized = sized; parts = λ p h. any-false (faultyPart s) 8 0 placed p (omega arith) h }
+  framed : Parted s
+  framed = record { long = sized; sound = λ p h. any-false (faultyPart s) 8 0 placed p (omega arith) h }
 
   rows-fine : (x y : Unit {0}) → third s ≡ accepts x → fourth s ≡ accepts y → rows-at-fault s ≡ false
   unfolding _>>_ check
@@ -86,7 +86,7 @@ module _ (s t : List ℕ) (e : Same s t) where
 
 -- Alike files that checks 1 and 2 let pass have the same outcome, if check 5 accepts both where it is reached.
 from-fifth :
-    (s t room : List ℕ) → Framed s → Framed t → Alike s t →
+    (s t room : List ℕ) → Parted s → Parted t → Alike s t →
     ((x y : Unit {0}) → third s ≡ accepts x → fourth s ≡ accepts y → (rows-at-fault s ≡ false) × (rows-at-fault t ≡ false)) →
     outcome s room ≡ outcome t room
 unfolding outcome check
