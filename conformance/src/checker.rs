@@ -96,7 +96,7 @@ pub const HEADER_BYTES: usize = 36;
 pub const MOST_BYTES: usize = 47_652;
 
 /// For each part, by place, its record bytes and most records.
-const PARTS: [(usize, usize); 8] =
+pub const PARTS: [(usize, usize); 8] =
     [(8, 1_024), (6, 1_024), (2, 4_096), (2, 64), (4, 64), (4, 32), (10, 2_048), (2, 2_048)];
 
 /// A file that has passed checks 1 to 9.

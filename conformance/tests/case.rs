@@ -5,13 +5,9 @@ use std::thread;
 
 use conformance::builder::{data, CaseFile, FormulaRow, LogRow, Step};
 use conformance::cases::{examples_and_vectors, grant, twice, visit};
-use conformance::checker::{admit, ABSENT, HEADER_BYTES};
+use conformance::checker::{admit, ABSENT, HEADER_BYTES, PARTS};
 use conformance::proved;
 use conformance::random::{damage, fitting_book, Random};
-
-/// Record bytes and most records of each part.
-const PARTS: [(usize, usize); 8] =
-    [(8, 1024), (6, 1024), (2, 4096), (2, 64), (4, 64), (4, 32), (10, 2048), (2, 2048)];
 
 type Answer = Result<(), (usize, usize)>;
 

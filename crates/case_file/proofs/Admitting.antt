@@ -196,6 +196,37 @@ module _ (s : List ℕ) (is : admission s ≡ accepts tt) where
   pub admitted-first : accepts tt ≡ firstChecks s
   admitted-first = sym (both-halves .0 .1)
 
-  pub admitted-rows : (k : ℕ) → k < count s log-part → badLogRow s (formulas s) k ≡ false
+  -- Checks 5 to 9, one after the other.
+  pub admitted-records :
+      ((k : ℕ) → k < count s log-part → badLogRow s (formulas s) k ≡ false)
+      × ((k : ℕ) → k < count s condition-part → badCondition s (formulas s) k ≡ false)
+      × ((k : ℕ) → k < count s obligation-part → badObligation s (formulas s) k ≡ false)
+      × ((k : ℕ) → k < count s label-part → badLabel s (formulas s) k ≡ false)
+      × (badAudit s (formulas s) ≡ false)
   unfolding recordChecks
-  admitted-rows = each-accepts 5 (count s log-part) (badLogRow s (formulas s)) (then-accepts (checkEach 5 (count s log-part) (badLogRow s (formulas s))) _ tt (both-halves .1) .0 .1)
+  admitted-records =
+      let rows = then-accepts (checkEach 5 (count s log-part) (badLogRow s (formulas s))) _ tt (both-halves .1) in
+      let conditions = then-accepts (checkEach 6 (count s condition-part) (badCondition s (formulas s))) _ tt (rows .1) in
+      let obligations = then-accepts (checkEach 7 (count s obligation-part) (badObligation s (formulas s))) _ tt (conditions .1) in
+      let labels = then-accepts (checkEach 8 (count s label-part) (badLabel s (formulas s))) _ tt (obligations .1) in (
+        each-accepts 5 (count s log-part) (badLogRow s (formulas s)) (rows .0 .1),
+        each-accepts 6 (count s condition-part) (badCondition s (formulas s)) (conditions .0 .1),
+        each-accepts 7 (count s obligation-part) (badObligation s (formulas s)) (obligations .0 .1),
+        each-accepts 8 (count s label-part) (badLabel s (formulas s)) (labels .0 .1),
+        check-accepts 9 0 (badAudit s (formulas s)) (labels .1),
+      )
+
+  pub admitted-rows : (k : ℕ) → k < count s log-part → badLogRow s (formulas s) k ≡ false
+  admitted-rows = admitted-records .0
+
+  pub admitted-condition : (k : ℕ) → k < count s condition-part → badCondition s (formulas s) k ≡ false
+  admitted-condition = admitted-records .1
+
+  pub admitted-obligation : (k : ℕ) → k < count s obligation-part → badObligation s (formulas s) k ≡ false
+  admitted-obligation = admitted-records .2
+
+  pub admitted-label : (k : ℕ) → k < count s label-part → badLabel s (formulas s) k ≡ false
+  admitted-label = admitted-records .3
+
+  pub admitted-audit : badAudit s (formulas s) ≡ false
+  admitted-audit = admitted-records .4

@@ -15,6 +15,8 @@ use Rattle.case_file.specs.Admission.{admission}
 use Rattle.case_file.specs.Answers.{afterFirst, firstBadRow, rowsEntered}
 use Rattle.case_file.proofs.Admitting.{admitted-first, admitted-rows, first-parted, first-booked}
 use Rattle.case_file.proofs.Seeing.{code-view}
+pub use Rattle.case_file.proofs.Admitting.{admitted-condition, admitted-obligation, admitted-label, admitted-audit}
+pub use Rattle.case_file.proofs.Named.{obligation-named, label-named, condition-named, audit-named, shown-named}
 pub use Rattle.case_file.proofs.Parting.{header-inside, part-inside, part-few, part-whole, part-length, held-count}
 
 module _ (s : List ℕ) (is : admission s ≡ accepts tt) where

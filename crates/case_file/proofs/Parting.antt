@@ -11,8 +11,8 @@ use borrow.Author.Tests.{not-false, eqb-true, ltb-false, lt-ltb, le-ltb, eq-eqb,
 use Rattle.words.specs.Words.{word}
 use Rattle.words.proofs.Tests.{or-false}
 use Rattle.words.proofs.Windows.{window-at, window-length}
-use Rattle.case_file.specs.Layout.{headerBytes, mostBytes, recordBytes, mostRecords, premise-part, observer-part, log-part, step-part, offset, size, end, count, part, held, field, dueOffset, badLength, orphans, faultyPart}
-use Rattle.case_file.specs.Parts.{Parted, isMisplaced}
+use Rattle.case_file.specs.Layout.{headerBytes, mostBytes, recordBytes, mostRecords, premise-part, observer-part, log-part, step-part, offset, size, end, count, part, held, field, dueOffset, badLength, orphans, isMisplaced, faultyPart}
+use Rattle.case_file.specs.Parts.{Parted}
 
 pub some-bytes : (p : ℕ) → 0 < recordBytes p
 unfolding recordBytes
@@ -61,24 +61,24 @@ part-is s p o n e f =
 
 -- The tests of check 2, first to last.
 pub misplaced-faulty : (s : List ℕ) (p : ℕ) → isMisplaced s p ≡ true → true ≡ faultyPart s p
-unfolding faultyPart isMisplaced
+unfolding faultyPart
 misplaced-faulty s p e = rw e
 
 module _ (s : List ℕ) (p : ℕ) (e : isMisplaced s p ≡ false) where
   pub end-faulty : p ≡ 7 → ltb (end s 7) (length s) ≡ true → true ≡ faultyPart s p
-  unfolding faultyPart isMisplaced
+  unfolding faultyPart
   end-faulty is h = rw (e, eq-eqb p 7 is) (rw is (rw h))
 
   pub last-faulty : p ≡ 7 → ltb (end s 7) (length s) ≡ false → orphans s 6 7 ≡ faultyPart s p
-  unfolding faultyPart isMisplaced
+  unfolding faultyPart
   last-faulty is h = rw (e, eq-eqb p 7 is, ne-eqb p 2 (λ q. omega (arith, q, is))) (rw is (rw h))
 
   pub observers-faulty : p ≡ 2 → orphans s 1 2 ≡ faultyPart s p
-  unfolding faultyPart isMisplaced
+  unfolding faultyPart
   observers-faulty is = rw (e, ne-eqb p 7 (λ q. omega (arith, q, is)), eq-eqb p 2 is) (sym (or-none (orphans s 1 2)))
 
   pub never-faulty : (p ≡ 7 → ⊥) → (p ≡ 2 → ⊥) → false ≡ faultyPart s p
-  unfolding faultyPart isMisplaced
+  unfolding faultyPart
   never-faulty h k = rw (e, ne-eqb p 7 h, ne-eqb p 2 k)
 
 module _ (s : List ℕ) (g : Parted s) where
@@ -92,7 +92,7 @@ module _ (s : List ℕ) (g : Parted s) where
 
   module _ (p : ℕ) (known : p < 8) where
     placed : isMisplaced s p ≡ false
-    unfolding faultyPart isMisplaced
+    unfolding faultyPart
     placed =
         or-false (isMisplaced s p) (eqb p premise-part && ltb (end s p) (length s))
         (or-false (isMisplaced s p || (eqb p premise-part && ltb (end s p) (length s))) (eqb p observer-part && orphans s log-part observer-part)

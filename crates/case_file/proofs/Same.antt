@@ -9,7 +9,7 @@ use Rattle.case_file.specs.Records.{formulas, conditionFormula, obligati
 use Rattle.case_file.specs.Views.{rowView}
 use Rattle.case_file.specs.Case.{reading, caseOf}
 use Rattle.case_file.specs.Alike.{Alike}
-use Rattle.case_file.proofs.Framed.{same-count}
+use Rattle.case_file.proofs.Adjoining.{same-count}
 use Rattle.case_file.specs.Parts.{Parted}
 use Rattle.case_file.proofs.Views.{views-alike}
 

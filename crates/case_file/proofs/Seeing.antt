@@ -18,10 +18,10 @@ use Rattle.formula_book.specs.Formulas.{no-formula, isAction}
 use Rattle.formula_book.specs.Book.{treeIn, book}
 use Rattle.formula_book.proofs.Laws.{admitted-few, beyond}
 use Rattle.case_file.specs.Layout.{log-part, observer-part, count, held, mostRecords, agentOf}
-use Rattle.case_file.specs.Records.{formulas, rowAction, rowFrom, rowCount, observer, badSpan, isGroundAction, badObserver, badLogRow}
+use Rattle.case_file.specs.Records.{formulas, rowAction, rowFrom, rowCount, observer, spanDue, spanFault, badSpan, isGroundAction, badObserver, badAction, badLogRow}
 use Rattle.case_file.specs.Views.{isSeen, viewOf, rowView}
 use Rattle.case_file.specs.Parts.{Parted, Booked}
-use Rattle.case_file.specs.Seen.{hiddenCode, viewCode, codeView, SeenUpTo, badAction, dueFrom, spanFault, ListAnswer, faulty, unseen, seen, listAnswer, RowAnswer, bad, good, rowAnswer}
+use Rattle.case_file.specs.Seen.{hiddenCode, viewCode, codeView, SeenUpTo, ListAnswer, faulty, unseen, seen, listAnswer, RowAnswer, bad, good, rowAnswer}
 use Rattle.case_file.proofs.Parting.{part-few, held-count}
 
 pub observers-few : (s : List ℕ) → Parted s → count s observer-part ≤ 4096
@@ -62,20 +62,20 @@ listed seen a e = good a e
 -- Row k of a file.
 module _ (s : List ℕ) (k : ℕ) where
   rowSpan : Bool
-  rowSpan = spanFault (dueFrom s k) (rowFrom s k) (rowCount s k) (eqb (k + 1) (count s log-part)) (count s observer-part)
+  rowSpan = spanFault (spanDue (rowFrom s) (rowCount s) k) (rowFrom s k) (rowCount s k) (eqb (k + 1) (count s log-part)) (count s observer-part)
 
   rowList : Bool
   rowList = any (badObserver s (rowFrom s k)) (rowCount s k) (rowFrom s k)
 
   bad-row-is : badLogRow s (formulas s) k ≡ badAction (formulas s) (rowAction s k) || rowSpan || rowList
-  unfolding badLogRow badAction badSpan spanFault dueFrom rowSpan rowList
+  unfolding badLogRow badSpan rowSpan rowList
   bad-row-is = refl
 
   pub action-bad : badAction (formulas s) (rowAction s k) ≡ true → bad ≡ rowAnswer s k
   unfolding rowAnswer
   action-bad e = rw (bad-row-is, e)
 
-  pub span-bad : spanFault (dueFrom s k) (rowFrom s k) (rowCount s k) (eqb (k + 1) (count s log-part)) (count s observer-part) ≡ true → bad ≡ rowAnswer s k
+  pub span-bad : spanFault (spanDue (rowFrom s) (rowCount s) k) (rowFrom s k) (rowCount s k) (eqb (k + 1) (count s log-part)) (count s observer-part) ≡ true → bad ≡ rowAnswer s k
   unfolding rowAnswer rowSpan
   span-bad e = rw (bad-row-is, e, or-true)
 
@@ -90,11 +90,11 @@ module _ (s : List ℕ) (k : ℕ) where
   pub row-listed :
       (action from len agent : ℕ) → action ≡ rowAction s k → from ≡ rowFrom s k → len ≡ rowCount s k → agent ≡ agentOf s → Parted s →
       badAction (formulas s) (rowAction s k) ≡ false →
-      spanFault (dueFrom s k) (rowFrom s k) (rowCount s k) (eqb (k + 1) (count s log-part)) (count s observer-part) ≡ false →
+      spanFault (spanDue (rowFrom s) (rowCount s) k) (rowFrom s k) (rowCount s k) (eqb (k + 1) (count s log-part)) (count s observer-part) ≡ false →
       (a : ListAnswer) → a ≡ listAnswer s agent from len → listed a action (from + len) ≡ rowAnswer s k
   unfolding rowAnswer rowSpan rowList listAnswer viewCode listed
   row-listed action from len agent act-is from-is len-is agent-is p act-good span-good a is =
-      let within = span-within (dueFrom s k) (rowFrom s k) (rowCount s k) (eqb (k + 1) (count s log-part)) (count s observer-part) span-good in
+      let within = span-within (spanDue (rowFrom s) (rowCount s) k) (rowFrom s k) (rowCount s k) (eqb (k + 1) (count s log-part)) (count s observer-part) span-good in
       rw (is, act-is, from-is, len-is, agent-is, bad-row-is, act-good, span-good, seen-is p within)
       (go (any (badObserver s (rowFrom s k)) (rowCount s k) (rowFrom s k)) (any (λ j. eqb (observer s j) (agentOf s)) (rowCount s k) (rowFrom s k)))
     where
@@ -127,20 +127,6 @@ module _ (s : List ℕ) (k : ℕ) where
       go : (b : Bool) (c f : ℕ) → good code end ≡ cond b bad (good c f) → (b ≡ false) × (code ≡ c) × (end ≡ f)
       go true c f q = absurd (false≢true (ap isBad q))
       go false c f q = (refl, cc, cc)
-
-  pub due-next : rowFrom s k + rowCount s k ≡ dueFrom s (k + 1)
-  unfolding dueFrom
-  due-next =
-      let back : k + 1 - 1 ≡ k = omega arith in
-      rw (ne-eqb (k + 1) 0 (λ q. omega arith), back)
-
-pub due-first : (s : List ℕ) → 0 ≡ dueFrom s 0
-unfolding dueFrom
-due-first s = refl
-
--- With row k good, the rows below k + 1 are.
-pub good-more : (s : List ℕ) (k : ℕ) → ((q : ℕ) → q < k → badLogRow s (formulas s) q ≡ false) → badLogRow s (formulas s) k ≡ false → (q : ℕ) → q < k + 1 → badLogRow s (formulas s) q ≡ false
-good-more s k below here q lt = ⊎-elim (λ e. rw e here) (below q) (newest q k lt)
 
 -- The table as the loop over the rows fills it.
 pub seen-none : (s old : List ℕ) → SeenUpTo s 0 old old

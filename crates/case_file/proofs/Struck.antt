@@ -7,19 +7,18 @@ use mathlib.Core.Logic.{_⊎_, inl, inr}
 use mathlib.Core.List.{List, [], _∷_}
 use native.Mathlib.Omega.{arith}
 use lib.ListN.{length, getD, List·getD-eq-default}
-use lib.Dec.{eqb, ltb}
+use lib.Dec.{ltb}
 use borrow.Author.Tests.{ltb-true, ltb-false, lt-ltb, le-ltb, le-leb, lt-leb}
 use Rattle.words.specs.Words.{word, absent}
 use Rattle.words.specs.Ranges.{any}
 use Rattle.words.proofs.Ranges.{any-false, any-none}
 use Rattle.words.proofs.Windows.{window-at, same-entry, same-window}
 use Rattle.formula_book.specs.Formulas.{Formula}
-use Rattle.formula_book.specs.Book.{treeIn}
-use Rattle.case_file.specs.Layout.{headerBytes, formula-part, log-part, observer-part, condition-part, obligation-part, label-part, step-part, premise-part, recordBytes, agentOf, actionOf, offset, size, end, count, part, held, field, dueOffset, badLength, orphans, faultyPart}
-use Rattle.case_file.specs.Records.{rowAction, rowFrom, rowCount, observer, badSpan, isGroundAction, badObserver, badLogRow}
+use Rattle.case_file.specs.Layout.{headerBytes, formula-part, log-part, observer-part, condition-part, obligation-part, label-part, step-part, premise-part, recordBytes, agentOf, actionOf, offset, size, end, count, part, held, field, dueOffset, badLength, orphans, isMisplaced, faultyPart}
+use Rattle.case_file.specs.Records.{rowAction, rowFrom, rowCount, observer, badSpan, badObserver, badAction, badLogRow}
 use Rattle.case_file.specs.Views.{isSeen, inUnseenAction, struckFrom, strike}
 use Rattle.case_file.specs.Alike.{RowAlike, Alike}
-use Rattle.case_file.proofs.Framed.{log-start, behind-log}
+use Rattle.case_file.proofs.Adjoining.{log-start, behind-log}
 use Rattle.case_file.proofs.Parting.{part-inside}
 use Rattle.case_file.specs.Parts.{Parted}
 use Rattle.case_file.proofs.Same.{same-field}
@@ -91,9 +90,9 @@ module _ (s : List ℕ) (f : Parted s) where
   unfolding size
   same-size p h = header-word (4 * p + 6) (omega arith)
 
-  pub framed-struck : Parted (strike s)
-  unfolding badLength faultyPart dueOffset end count orphans
-  framed-struck =
+  pub parted-struck : Parted (strike s)
+  unfolding badLength faultyPart isMisplaced dueOffset end count orphans
+  parted-struck =
       record {
         long = rw same-length (f .long);
         sound =
@@ -197,13 +196,10 @@ module _ (s : List ℕ) (f : Parted s) where
   same-observers = fun-ext λ from. fun-ext λ j. rw same-observer
 
   row-stays-good : (l : List Formula) (k : ℕ) → k < count s log-part → badLogRow s l k ≡ false → badLogRow (strike s) l k ≡ false
-  unfolding badLogRow
+  unfolding badLogRow badAction
   row-stays-good l k h fine =
       rw (same-from, same-len, same-observers, same-count log-part (omega arith), same-count observer-part (omega arith)) (go (isSeen s k) refl)
     where
-      bad : (action : ℕ) → Bool
-      bad a = not (eqb a absent || isGroundAction (treeIn l a))
-
       spans : Bool
       spans = badSpan (rowFrom s) (rowCount s) (count s log-part) (count s observer-part) k
 
@@ -214,9 +210,9 @@ module _ (s : List ℕ) (f : Parted s) where
       others true b c e = absurd (false≢true (sym e))
       others false b c e = e
 
-      go : (b : Bool) → isSeen s k ≡ b → bad (rowAction (strike s) k) || spans || entries ≡ false
+      go : (b : Bool) → isSeen s k ≡ b → badAction l (rowAction (strike s) k) || spans || entries ≡ false
       go true e = rw (seen-action k e) fine
-      go false e = rw (unseen-action k h e) (others (bad (rowAction s k)) spans entries fine)
+      go false e = rw (unseen-action k h e) (others (badAction l (rowAction s k)) spans entries fine)
 
   pub rows-stay-good : (l : List Formula) → any (badLogRow s l) (count s log-part) 0 ≡ false → any (badLogRow (strike s) l) (count (strike s) log-part) 0 ≡ false
   rows-stay-good l fine =

@@ -1,14 +1,15 @@
 -- The admission in two halves, as the code goes: checks 1 to 4, which make the file's parts and formulas safe to read, and checks 5 to 9 over these.
 use Prim.Native.Nat.{ℕ}
+use mathlib.Core.Bool.{Bool, cond}
 use mathlib.Core.List.{List}
+use lib.Dec.{eqb}
 use Rattle.words.specs.Ranges.{lowest}
 use Rattle.words.specs.Checks.{Checked, accepts, refuses, _>>_, check, checkEach}
+use Rattle.formula_book.specs.Formulas.{Formula}
 use Rattle.formula_book.specs.Book.{badFormula, repeatsLower}
 use Rattle.formula_book.specs.Admission.{BookAnswer, admitted, misshapen, bad-row, repeated-row}
 use Rattle.case_file.specs.Layout.{formula-part, log-part, condition-part, obligation-part, label-part, part, count, badLength, faultyPart}
 use Rattle.case_file.specs.Records.{formulas, badLogRow, badCondition, badObligation, badLabel, badAudit}
-use Rattle.case_file.specs.declared.admission.Admission.{Admission}
-use Rattle.case_file.specs.declared.admission.Admission.the-variants.{Admitted, Refused}
 
 unfoldable pub firstChecks : List ℕ → Checked (Unit {0})
 firstChecks s = do
@@ -44,7 +45,6 @@ firstBadRow s = lowest (badLogRow s (formulas s)) (count s log-part) 0
 unfoldable pub rowsEntered : List ℕ → ℕ
 rowsEntered s = afterFirst (firstChecks s) (firstBadRow s)
 
--- What the code's answer stands for.
-unfoldable pub answerMeant : Admission → Checked (Unit {0})
-answerMeant Admitted = accepts tt
-answerMeant (Refused n p) = refuses n p
+-- Checks 6 to 8 of entry k, by the part that the entry is of.
+unfoldable pub badEntry : List ℕ → List Formula → (p k : ℕ) → Bool
+badEntry s l p k = cond (eqb p condition-part) (badCondition s l k) (cond (eqb p obligation-part) (badObligation s l k) (badLabel s l k))

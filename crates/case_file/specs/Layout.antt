@@ -92,14 +92,19 @@ badLength s = ltb (length s) headerBytes || ltb mostBytes (length s)
 unfoldable pub orphans : List ℕ → ℕ → ℕ → Bool
 orphans s p q = eqb (size s p) 0 && ltb 0 (size s q)
 
--- Check 2: "a faulty part", place: part. "A part is faulty if its offset is not the one due, its length is no whole number of records or over the limit,
--- it ends beyond the file, or, for part 7, before the file's end. Observers without log rows make part 2 faulty, premises without steps part 7."
-unfoldable pub faultyPart : List ℕ → ℕ → Bool
-faultyPart s p =
+-- The part of check 2 that all parts share: "its offset is not the one due, its length is no whole number of records or over the limit, it ends beyond the file".
+unfoldable pub isMisplaced : List ℕ → ℕ → Bool
+isMisplaced s p =
     not (eqb (offset s p) (dueOffset s p))
     || not (eqb (size s p % recordBytes p) 0)
     || ltb (mostRecords p) (count s p)
     || ltb (length s) (end s p)
+
+-- Check 2: "a faulty part", place: part. "A part is faulty if its offset is not the one due, its length is no whole number of records or over the limit,
+-- it ends beyond the file, or, for part 7, before the file's end. Observers without log rows make part 2 faulty, premises without steps part 7."
+unfoldable pub faultyPart : List ℕ → ℕ → Bool
+faultyPart s p =
+    isMisplaced s p
     || (eqb p premise-part && ltb (end s p) (length s))
     || (eqb p observer-part && orphans s log-part observer-part)
     || (eqb p premise-part && orphans s step-part premise-part)

@@ -1,17 +1,10 @@
 -- What holds of a file that passes the first checks, as the functions that read it ask for it.
-use Prim.Native.Nat.{ℕ, _<_, _%_}
-use mathlib.Core.Bool.{Bool, false, not, _||_}
+use Prim.Native.Nat.{ℕ, _<_}
+use mathlib.Core.Bool.{false}
 use mathlib.Core.Path.{_≡_}
 use mathlib.Core.List.{List}
-use lib.ListN.{length}
-use lib.Dec.{eqb, ltb}
 use Rattle.formula_book.specs.Admission.{admitted, bookAnswer}
-use Rattle.case_file.specs.Layout.{formula-part, offset, size, end, count, recordBytes, mostRecords, dueOffset, part, badLength, faultyPart}
-
--- Is part p not where it is due, no whole number of records, over the limit, or not all in the file? These are the first four parts of check 2.
-unfoldable pub isMisplaced : List ℕ → ℕ → Bool
-isMisplaced s p =
-    not (eqb (offset s p) (dueOffset s p)) || not (eqb (size s p % recordBytes p) 0) || ltb (mostRecords p) (count s p) || ltb (length s) (end s p)
+use Rattle.case_file.specs.Layout.{formula-part, part, badLength, faultyPart}
 
 -- Checks 1 and 2 let the file pass: its parts are where the header says.
 pub record Parted (s : List ℕ) : Type 0 where

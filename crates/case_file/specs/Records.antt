@@ -61,13 +61,17 @@ stepCount s k = field s step-part k 8
 unfoldable pub premiseStep : List ℕ → ℕ → ℕ
 premiseStep s j = field s premise-part j 0
 
--- "These spans adjoin from 0 and cover all .. (a shortfall is the last row's)": span k of n, over m entries, is at fault if it does not begin where the one before ended,
--- ends beyond the entries, or is the last and ends before their end. Log rows and steps have spans alike.
+-- Where span k is due to begin: at 0, or where the one before ended.
+unfoldable pub spanDue : (from len : ℕ → ℕ) → (k : ℕ) → ℕ
+spanDue from len k = cond (eqb k 0) 0 (from (k - 1) + len (k - 1))
+
+-- A span over m entries is at fault if it does not begin where it is due, ends beyond the entries, or is the last and ends before their end.
+unfoldable pub spanFault : (due from len : ℕ) → (last : Bool) → (m : ℕ) → Bool
+spanFault due from len last m = not (eqb from due) || ltb m (from + len) || (last && ltb (from + len) m)
+
+-- "These spans adjoin from 0 and cover all .. (a shortfall is the last row's)": span k of n, over m entries, is at fault. Log rows and steps have spans alike.
 unfoldable pub badSpan : (from len : ℕ → ℕ) → (n m k : ℕ) → Bool
-badSpan from len n m k =
-    not (eqb (from k) (cond (eqb k 0) 0 (from (k - 1) + len (k - 1))))
-    || ltb m (from k + len k)
-    || (eqb (k + 1) n && ltb (from k + len k) m)
+badSpan from len n m k = spanFault (spanDue from len k) (from k) (len k) (eqb (k + 1) n) m
 
 unfoldable pub isGroundAction : Formula → Bool
 isGroundAction f = isAction f && ground f
@@ -82,10 +86,14 @@ badObserver s from j =
     not (isObject agents (classOf (observer s j)))
     || (not (eqb j from) && leb (observer s j) (observer s (j - 1)))
 
--- Check 5: "bad log row", place: row. "A row's action may be absent: struck out", otherwise it is a ground action; the spans adjoin and cover; "each list strictly ascending agents".
+-- The action of a row is at fault if it is neither absent nor a ground action. "A row's action may be absent: struck out."
+unfoldable pub badAction : List Formula → ℕ → Bool
+badAction l a = not (eqb a absent || isGroundAction (treeIn l a))
+
+-- Check 5: "bad log row", place: row. The action; the spans adjoin and cover; "each list strictly ascending agents".
 unfoldable pub badLogRow : List ℕ → List Formula → ℕ → Bool
 badLogRow s l k =
-    not (eqb (rowAction s k) absent || isGroundAction (treeIn l (rowAction s k)))
+    badAction l (rowAction s k)
     || badSpan (rowFrom s) (rowCount s) (count s log-part) (count s observer-part) k
     || any (badObserver s (rowFrom s k)) (rowCount s k) (rowFrom s k)
 

@@ -1,15 +1,16 @@
 -- What check 5 comes to at a row, and the table of what the agent sees: entry k, of row k, is the number of the row's action where the agent sees it, absent for a struck row, and 65,534 for a hidden one.
-use Prim.Native.Nat.{ℕ, _+_, _-_, _≤_, _<_}
-use mathlib.Core.Bool.{Bool, cond, not, _&&_, _||_}
+use Prim.Native.Nat.{ℕ, _+_, _<_}
+use mathlib.Core.Bool.{Bool, cond}
 use mathlib.Core.Path.{_≡_}
 use mathlib.Core.List.{List}
 use lib.ListN.{length, getD}
-use lib.Dec.{eqb, ltb}
+use lib.Dec.{eqb}
 use Rattle.words.specs.Words.{absent}
 use Rattle.words.specs.Ranges.{any}
+use Rattle.words.specs.Lists.{Kept}
 use Rattle.formula_book.specs.Formulas.{Formula}
 use Rattle.formula_book.specs.Book.{treeIn}
-use Rattle.case_file.specs.Records.{formulas, rowAction, rowFrom, rowCount, observer, isGroundAction, badObserver, badLogRow}
+use Rattle.case_file.specs.Records.{formulas, rowAction, rowFrom, rowCount, observer, badObserver, badLogRow}
 use Rattle.case_file.specs.Views.{RowView, hidden, struck, shows, isSeen}
 
 -- What the table has for a hidden row. No formula has this number.
@@ -27,19 +28,7 @@ codeView l c = cond (eqb c hiddenCode) hidden (cond (eqb c absent) struck (shows
 pub record SeenUpTo (s : List ℕ) (n : ℕ) (old new : List ℕ) : Type 0 where
   pub long : length new ≡ length old
   pub low : (k : ℕ) → k < n → getD new k 0 ≡ viewCode (isSeen s k) (rowAction s k)
-  pub rest : (k : ℕ) → n ≤ k → getD new k 0 ≡ getD old k 0
-
--- A row's action is at fault if it is neither absent nor a ground action.
-unfoldable pub badAction : List Formula → ℕ → Bool
-badAction l a = not (eqb a absent || isGroundAction (treeIn l a))
-
--- Where the span of row k is due to begin.
-unfoldable pub dueFrom : List ℕ → ℕ → ℕ
-dueFrom s k = cond (eqb k 0) 0 (rowFrom s (k - 1) + rowCount s (k - 1))
-
--- A span that is due to begin at `due`, over m entries, is at fault.
-unfoldable pub spanFault : (due from len : ℕ) → (last : Bool) → (m : ℕ) → Bool
-spanFault due from len last m = not (eqb from due) || ltb m (from + len) || (last && ltb (from + len) m)
+  pub rest : Kept n old new
 
 -- What a list of observers says: it is at fault, or the agent is not among them, or is.
 pub data ListAnswer : Type 0 where

@@ -1,8 +1,11 @@
 // Admission of a case file: checks 1 to 9 over any bytes.
 use crate::checks::bad_audit;
-use crate::checks::first_bad_condition;
-use crate::checks::first_bad_label;
-use crate::checks::first_bad_obligation;
+use crate::checks::first_bad;
+use crate::layout::CONDITIONS;
+use crate::layout::FORMULAS;
+use crate::layout::LABELS;
+use crate::layout::LOG;
+use crate::layout::OBLIGATIONS;
 use crate::layout::bad_length;
 use crate::layout::count_of;
 use crate::layout::first_faulty;
@@ -13,7 +16,8 @@ ghost use lib.ListN.{length};
 ghost use Rattle.case_file.specs.Admission.{admission};
 ghost use Rattle.case_file.specs.Parts.{Parted, Booked};
 ghost use Rattle.case_file.specs.Seen.{SeenUpTo};
-ghost use Rattle.case_file.specs.Answers.{firstChecks, recordChecks, firstBadRow, rowsEntered, answerMeant};
+ghost use Rattle.case_file.specs.Answers.{firstChecks, recordChecks, firstBadRow, rowsEntered};
+ghost use Rattle.case_file.specs.Meanings.{answerMeant};
 
 // A refusal has the number of the first check that fails, and its place.
 pub enum Admission {
@@ -32,7 +36,7 @@ fn first_checks(file: &[u8]) -> Admission
     if faulty < 8 {
         return Admission::Refused(2, faulty);
     }
-    let answer = formula_book::admit(part(file, 0));
+    let answer = formula_book::admit(part(file, FORMULAS));
     match answer {
         formula_book::Admission::Admitted(_) => Admission::Admitted,
         formula_book::Admission::Misshapen => Admission::Refused(2, 0),
@@ -48,19 +52,19 @@ fn record_checks(file: &[u8], book: &[u8], formulas: usize, views: &mut [u16; 10
     ensures { λ r. ⌜ (answerMeant r ≡ recordChecks (now (file .entry))) × SeenUpTo (now (file .entry)) (firstBadRow (now (file .entry))) (now (views .entry)) (now (views .exit)) ⌝ }
 {
     let row = see_rows(file, book, formulas, views);
-    if row < count_of(file, 1) {
+    if row < count_of(file, LOG) {
         return Admission::Refused(5, row);
     }
-    let condition = first_bad_condition(file, book, formulas);
-    if condition < count_of(file, 3) {
+    let condition = first_bad(file, book, formulas, CONDITIONS);
+    if condition < count_of(file, CONDITIONS) {
         return Admission::Refused(6, condition);
     }
-    let obligation = first_bad_obligation(file, book, formulas);
-    if obligation < count_of(file, 4) {
+    let obligation = first_bad(file, book, formulas, OBLIGATIONS);
+    if obligation < count_of(file, OBLIGATIONS) {
         return Admission::Refused(7, obligation);
     }
-    let label = first_bad_label(file, book, formulas);
-    if label < count_of(file, 5) {
+    let label = first_bad(file, book, formulas, LABELS);
+    if label < count_of(file, LABELS) {
         return Admission::Refused(8, label);
     }
     if bad_audit(file, book, formulas) {
@@ -78,8 +82,8 @@ pub fn admit_into(file: &[u8], views: &mut [u16; 1024]) -> Admission
     match first {
         Admission::Refused(number, place) => Admission::Refused(number, place),
         Admission::Admitted => {
-            let book = part(file, 0);
-            let formulas = count_of(file, 0);
+            let book = part(file, FORMULAS);
+            let formulas = count_of(file, FORMULAS);
             record_checks(file, book, formulas, views)
         }
     }

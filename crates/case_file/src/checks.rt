@@ -1,4 +1,6 @@
 // Checks 6 to 9: the conditions, the obligations, the labels, and what is audited.
+use crate::layout::CONDITIONS;
+use crate::layout::OBLIGATIONS;
 use crate::layout::count_of;
 use crate::numbers::closed_action;
 use crate::numbers::closed_policy;
@@ -13,11 +15,12 @@ use crate::records::obligation_action;
 use crate::records::obligation_mark;
 use formula_book::Term;
 ghost use mathlib.Core.Path.{_≡_};
-ghost use Prim.Native.Nat.{_<_};
+ghost use Prim.Native.Nat.{_<_, _≤_};
 ghost use Rattle.words.specs.Ranges.{lowest};
 ghost use Rattle.case_file.specs.Layout.{count, condition-part, obligation-part, label-part};
 ghost use Rattle.case_file.specs.Parts.{Parted, Booked};
 ghost use Rattle.case_file.specs.Records.{formulas as formulasOf, isDuty, badCondition, badObligation, badLabel, badAudit};
+ghost use Rattle.case_file.specs.Answers.{badEntry};
 
 // Check 6 of entry `k`. An absent condition is no fault.
 fn bad_condition(file: &[u8], book: &[u8], formulas: usize, k: usize) -> bool
@@ -73,47 +76,31 @@ fn bad_label(file: &[u8], book: &[u8], formulas: usize, k: usize) -> bool
     true
 }
 
-// The first bad condition, or the number of conditions.
-pub fn first_bad_condition(file: &[u8], book: &[u8], formulas: usize) -> usize
+// Checks 6 to 8 of entry `k`, by its part: the conditions, the obligations or the labels.
+fn bad_entry(file: &[u8], book: &[u8], formulas: usize, p: usize, k: usize) -> bool
     requires { ⌜ Parted (now file) × Booked (now file) (now book) formulas ⌝ }
-    ensures { λ r. ⌜ r ≡ lowest (badCondition (now (file .entry)) (formulasOf (now (file .entry)))) (count (now (file .entry)) condition-part) 0 ⌝ }
+    requires { ⌜ (condition-part ≤ p) × (p ≤ label-part) × (k < count (now file) p) ⌝ }
+    ensures { λ r. ⌜ r ≡ badEntry (now (file .entry)) (formulasOf (now (file .entry))) p k ⌝ }
 {
-    let n = count_of(file, 3);
-    let mut k: usize = 0;
-    while k < n {
-        if bad_condition(file, book, formulas, k) {
-            return k;
-        }
-        k += 1;
+    if p == CONDITIONS {
+        return bad_condition(file, book, formulas, k);
     }
-    n
+    if p == OBLIGATIONS {
+        return bad_obligation(file, book, formulas, k);
+    }
+    bad_label(file, book, formulas, k)
 }
 
-// The first bad obligation, or the number of obligations.
-pub fn first_bad_obligation(file: &[u8], book: &[u8], formulas: usize) -> usize
+// The first bad entry of part `p`, or the number of its entries.
+pub fn first_bad(file: &[u8], book: &[u8], formulas: usize, p: usize) -> usize
     requires { ⌜ Parted (now file) × Booked (now file) (now book) formulas ⌝ }
-    ensures { λ r. ⌜ r ≡ lowest (badObligation (now (file .entry)) (formulasOf (now (file .entry)))) (count (now (file .entry)) obligation-part) 0 ⌝ }
+    requires { ⌜ (condition-part ≤ p) × (p ≤ label-part) ⌝ }
+    ensures { λ r. ⌜ r ≡ lowest (badEntry (now (file .entry)) (formulasOf (now (file .entry))) p) (count (now (file .entry)) p) 0 ⌝ }
 {
-    let n = count_of(file, 4);
+    let n = count_of(file, p);
     let mut k: usize = 0;
     while k < n {
-        if bad_obligation(file, book, formulas, k) {
-            return k;
-        }
-        k += 1;
-    }
-    n
-}
-
-// The first bad label, or the number of labels.
-pub fn first_bad_label(file: &[u8], book: &[u8], formulas: usize) -> usize
-    requires { ⌜ Parted (now file) × Booked (now file) (now book) formulas ⌝ }
-    ensures { λ r. ⌜ r ≡ lowest (badLabel (now (file .entry)) (formulasOf (now (file .entry)))) (count (now (file .entry)) label-part) 0 ⌝ }
-{
-    let n = count_of(file, 5);
-    let mut k: usize = 0;
-    while k < n {
-        if bad_label(file, book, formulas, k) {
+        if bad_entry(file, book, formulas, p, k) {
             return k;
         }
         k += 1;

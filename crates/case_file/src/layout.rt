@@ -4,8 +4,25 @@ ghost use Prim.Native.Nat.{_+_, _<_, _≤_};
 ghost use lib.ListN.{length};
 ghost use lib.Dec.{ltb};
 ghost use Rattle.words.specs.Ranges.{lowest};
-ghost use Rattle.case_file.specs.Layout.{offset, size, end, count, headerBytes, recordBytes, mostRecords, dueOffset, badLength, orphans, faultyPart, part as partOf, field as fieldOf};
-ghost use Rattle.case_file.specs.Parts.{Parted, isMisplaced};
+ghost use Rattle.case_file.specs.Layout.{offset, size, end, count, headerBytes, recordBytes, mostRecords, dueOffset, badLength, orphans, isMisplaced, faultyPart, part as partOf, field as fieldOf};
+ghost use Rattle.case_file.specs.Parts.{Parted};
+
+// The parts, by their places.
+pub const FORMULAS: usize = 0;
+
+pub const LOG: usize = 1;
+
+pub const OBSERVERS: usize = 2;
+
+pub const CONDITIONS: usize = 3;
+
+pub const OBLIGATIONS: usize = 4;
+
+pub const LABELS: usize = 5;
+
+pub const STEPS: usize = 6;
+
+pub const PREMISES: usize = 7;
 
 // The bytes of a record of part `p`.
 pub fn record_bytes(p: usize) -> usize
@@ -127,14 +144,14 @@ fn faulty_part(file: &[u8], p: usize) -> bool
     if misplaced(file, p) {
         return true;
     }
-    if p == 7 {
-        if goes_on(file, 7) {
+    if p == PREMISES {
+        if goes_on(file, PREMISES) {
             return true;
         }
-        return has_orphans(file, 6, 7);
+        return has_orphans(file, STEPS, PREMISES);
     }
-    if p == 2 {
-        return has_orphans(file, 1, 2);
+    if p == OBSERVERS {
+        return has_orphans(file, LOG, OBSERVERS);
     }
     false
 }

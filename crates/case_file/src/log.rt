@@ -1,4 +1,6 @@
 // The log rows: check 5, and the table of what the agent sees of each row.
+use crate::layout::LOG;
+use crate::layout::OBSERVERS;
 use crate::layout::count_of;
 use crate::numbers::ground_action;
 use crate::records::agent_of;
@@ -18,9 +20,9 @@ ghost use Rattle.formula_book.specs.Formulas.{Formula};
 ghost use Rattle.formula_book.specs.Book.{book as trees};
 ghost use Rattle.formula_book.specs.Admission.{admitted, bookAnswer};
 ghost use Rattle.case_file.specs.Layout.{log-part, observer-part, count};
-ghost use Rattle.case_file.specs.Records.{badLogRow, formulas as formulasOf};
+ghost use Rattle.case_file.specs.Records.{rowFrom, rowCount, spanDue, badAction, badLogRow, formulas as formulasOf};
 ghost use Rattle.case_file.specs.Parts.{Parted, Booked};
-ghost use Rattle.case_file.specs.Seen.{codeView, SeenUpTo, badAction, listAnswer, rowAnswer, dueFrom};
+ghost use Rattle.case_file.specs.Seen.{codeView, SeenUpTo, listAnswer, rowAnswer};
 ghost use Rattle.case_file.specs.Meanings.{listedMeant, toldMeant, viewMeant};
 
 // What a list of observers says of its row.
@@ -90,7 +92,7 @@ fn bad_action(book: &[u8], formulas: usize, action: u16) -> bool
 // What row `k` comes to. Its span is due to begin at `due`.
 fn tell_row(file: &[u8], book: &[u8], formulas: usize, due: usize, k: usize) -> Told
     requires { ⌜ Parted (now file) × Booked (now file) (now book) formulas ⌝ }
-    requires { ⌜ (k < count (now file) log-part) × (due ≡ dueFrom (now file) k) ⌝ }
+    requires { ⌜ (k < count (now file) log-part) × (due ≡ spanDue (rowFrom (now file)) (rowCount (now file)) k) ⌝ }
     ensures { λ r. ⌜ toldMeant r ≡ rowAnswer (now (file .entry)) k ⌝ }
 {
     let action = row_action(file, k);
@@ -99,8 +101,8 @@ fn tell_row(file: &[u8], book: &[u8], formulas: usize, due: usize, k: usize) -> 
     }
     let from = row_from(file, k) as usize;
     let len = row_count(file, k) as usize;
-    let last = k + 1 == count_of(file, 1);
-    if bad_span(due, from, len, last, count_of(file, 2)) {
+    let last = k + 1 == count_of(file, LOG);
+    if bad_span(due, from, len, last, count_of(file, OBSERVERS)) {
         return Told::Faulty;
     }
     let agent = agent_of(file);
@@ -118,7 +120,7 @@ pub fn see_rows(file: &[u8], book: &[u8], formulas: usize, views: &mut [u16; 102
     requires { ⌜ length (now views) ≡ 1024 ⌝ }
     ensures { λ r. ⌜ (r ≡ lowest (badLogRow (now (file .entry)) (formulasOf (now (file .entry)))) (count (now (file .entry)) log-part) 0) × SeenUpTo (now (file .entry)) r (now (views .entry)) (now (views .exit)) ⌝ }
 {
-    let n = count_of(file, 1);
+    let n = count_of(file, LOG);
     let mut due: usize = 0;
     let mut k: usize = 0;
     while k < n {

@@ -1,11 +1,17 @@
 // The fields of the records, and the test of a span.
+use crate::layout::CONDITIONS;
+use crate::layout::LABELS;
+use crate::layout::LOG;
+use crate::layout::OBLIGATIONS;
+use crate::layout::OBSERVERS;
+use crate::layout::PREMISES;
+use crate::layout::STEPS;
 use crate::layout::field;
 ghost use mathlib.Core.Path.{_≡_};
 ghost use Prim.Native.Nat.{_+_, _<_, _≤_};
 ghost use Rattle.case_file.specs.Layout.{log-part, observer-part, condition-part, obligation-part, label-part, step-part, premise-part, count, agentOf, actionOf};
-ghost use Rattle.case_file.specs.Records.{rowAction, rowFrom, rowCount, observer as observerOf, conditionFormula, obligationMark, obligationAction, labelMark, labelFormula, stepRule, stepFormula, stepArgument, stepFrom, stepCount, premiseStep};
+ghost use Rattle.case_file.specs.Records.{rowAction, rowFrom, rowCount, observer as observerOf, conditionFormula, obligationMark, obligationAction, labelMark, labelFormula, stepRule, stepFormula, stepArgument, stepFrom, stepCount, premiseStep, spanFault};
 ghost use Rattle.case_file.specs.Parts.{Parted};
-ghost use Rattle.case_file.specs.Seen.{spanFault};
 
 // The audited agent.
 pub fn agent_of(file: &[u8]) -> u16
@@ -28,7 +34,7 @@ pub fn row_action(file: &[u8], k: usize) -> u16
     requires { ⌜ Parted (now file) × (k < count (now file) log-part) ⌝ }
     ensures { λ r. ⌜ r ≡ rowAction (now (file .entry)) k ⌝ }
 {
-    field(file, 1, k, 0)
+    field(file, LOG, k, 0)
 }
 
 // Where the observers of log row `k` begin.
@@ -36,7 +42,7 @@ pub fn row_from(file: &[u8], k: usize) -> u16
     requires { ⌜ Parted (now file) × (k < count (now file) log-part) ⌝ }
     ensures { λ r. ⌜ r ≡ rowFrom (now (file .entry)) k ⌝ }
 {
-    field(file, 1, k, 2)
+    field(file, LOG, k, 2)
 }
 
 // How many observers log row `k` has.
@@ -44,7 +50,7 @@ pub fn row_count(file: &[u8], k: usize) -> u16
     requires { ⌜ Parted (now file) × (k < count (now file) log-part) ⌝ }
     ensures { λ r. ⌜ r ≡ rowCount (now (file .entry)) k ⌝ }
 {
-    field(file, 1, k, 4)
+    field(file, LOG, k, 4)
 }
 
 // Observer entry `j`.
@@ -52,7 +58,7 @@ pub fn observer(file: &[u8], j: usize) -> u16
     requires { ⌜ Parted (now file) × (j < count (now file) observer-part) ⌝ }
     ensures { λ r. ⌜ r ≡ observerOf (now (file .entry)) j ⌝ }
 {
-    field(file, 2, j, 0)
+    field(file, OBSERVERS, j, 0)
 }
 
 // The formula of condition `k`, or 65,535.
@@ -60,7 +66,7 @@ pub fn condition_formula(file: &[u8], k: usize) -> u16
     requires { ⌜ Parted (now file) × (k < count (now file) condition-part) ⌝ }
     ensures { λ r. ⌜ r ≡ conditionFormula (now (file .entry)) k ⌝ }
 {
-    field(file, 3, k, 0)
+    field(file, CONDITIONS, k, 0)
 }
 
 // The mark of obligation `k`.
@@ -68,7 +74,7 @@ pub fn obligation_mark(file: &[u8], k: usize) -> u16
     requires { ⌜ Parted (now file) × (k < count (now file) obligation-part) ⌝ }
     ensures { λ r. ⌜ r ≡ obligationMark (now (file .entry)) k ⌝ }
 {
-    field(file, 4, k, 0)
+    field(file, OBLIGATIONS, k, 0)
 }
 
 // The action of obligation `k`.
@@ -76,7 +82,7 @@ pub fn obligation_action(file: &[u8], k: usize) -> u16
     requires { ⌜ Parted (now file) × (k < count (now file) obligation-part) ⌝ }
     ensures { λ r. ⌜ r ≡ obligationAction (now (file .entry)) k ⌝ }
 {
-    field(file, 4, k, 2)
+    field(file, OBLIGATIONS, k, 2)
 }
 
 // The mark of label `k`.
@@ -84,7 +90,7 @@ pub fn label_mark(file: &[u8], k: usize) -> u16
     requires { ⌜ Parted (now file) × (k < count (now file) label-part) ⌝ }
     ensures { λ r. ⌜ r ≡ labelMark (now (file .entry)) k ⌝ }
 {
-    field(file, 5, k, 0)
+    field(file, LABELS, k, 0)
 }
 
 // The formula of label `k`.
@@ -92,7 +98,7 @@ pub fn label_formula(file: &[u8], k: usize) -> u16
     requires { ⌜ Parted (now file) × (k < count (now file) label-part) ⌝ }
     ensures { λ r. ⌜ r ≡ labelFormula (now (file .entry)) k ⌝ }
 {
-    field(file, 5, k, 2)
+    field(file, LABELS, k, 2)
 }
 
 // The rule of step `k`.
@@ -100,7 +106,7 @@ pub fn step_rule(file: &[u8], k: usize) -> u16
     requires { ⌜ Parted (now file) × (k < count (now file) step-part) ⌝ }
     ensures { λ r. ⌜ r ≡ stepRule (now (file .entry)) k ⌝ }
 {
-    field(file, 6, k, 0)
+    field(file, STEPS, k, 0)
 }
 
 // The formula of step `k`.
@@ -108,7 +114,7 @@ pub fn step_formula(file: &[u8], k: usize) -> u16
     requires { ⌜ Parted (now file) × (k < count (now file) step-part) ⌝ }
     ensures { λ r. ⌜ r ≡ stepFormula (now (file .entry)) k ⌝ }
 {
-    field(file, 6, k, 2)
+    field(file, STEPS, k, 2)
 }
 
 // The argument of step `k`.
@@ -116,7 +122,7 @@ pub fn step_argument(file: &[u8], k: usize) -> u16
     requires { ⌜ Parted (now file) × (k < count (now file) step-part) ⌝ }
     ensures { λ r. ⌜ r ≡ stepArgument (now (file .entry)) k ⌝ }
 {
-    field(file, 6, k, 4)
+    field(file, STEPS, k, 4)
 }
 
 // Where the premises of step `k` begin.
@@ -124,7 +130,7 @@ pub fn step_from(file: &[u8], k: usize) -> u16
     requires { ⌜ Parted (now file) × (k < count (now file) step-part) ⌝ }
     ensures { λ r. ⌜ r ≡ stepFrom (now (file .entry)) k ⌝ }
 {
-    field(file, 6, k, 6)
+    field(file, STEPS, k, 6)
 }
 
 // How many premises step `k` has.
@@ -132,7 +138,7 @@ pub fn step_count(file: &[u8], k: usize) -> u16
     requires { ⌜ Parted (now file) × (k < count (now file) step-part) ⌝ }
     ensures { λ r. ⌜ r ≡ stepCount (now (file .entry)) k ⌝ }
 {
-    field(file, 6, k, 8)
+    field(file, STEPS, k, 8)
 }
 
 // The step that premise entry `j` names.
@@ -140,7 +146,7 @@ pub fn premise_step(file: &[u8], j: usize) -> u16
     requires { ⌜ Parted (now file) × (j < count (now file) premise-part) ⌝ }
     ensures { λ r. ⌜ r ≡ premiseStep (now (file .entry)) j ⌝ }
 {
-    field(file, 7, j, 0)
+    field(file, PREMISES, j, 0)
 }
 
 // Is a span at fault? It is `len` of the `entries`, from `from` on, and is due to begin at `due`; the last has to end with them.

@@ -59,14 +59,13 @@ rest-whole s nexts k link b is other whole j lt e =
     (λ q. let at : link - 1 ≡ j = omega arith in not-both (rw at at is ∙ e) other)
     (whole j lt e)
 
--- The tables where the first k rows stand in the chains of their buckets, and none repeats a lower one.
+-- The tables where the first k rows stand in the chains of their buckets.
 pub record Linked (s heads nexts : List ℕ) (k : ℕ) : Type 0 where
   pub heads-size : length heads ≡ 1024
   pub nexts-size : length nexts ≡ 1024
   pub low : (b : ℕ) → getD heads b 0 ≤ k
   pub falls : Falls nexts
   pub chained : (j : ℕ) → j < k → Reaches nexts j (getD heads (bucketOf (rowAt s j)) 0)
-  pub none : (j : ℕ) → j < k → repeatsLower s j ≡ false
 
 -- Empty tables, before the first row.
 pub linked-none :
@@ -79,7 +78,6 @@ linked-none s heads nexts heads-size nexts-size no-head no-next =
       low = λ b. omega (arith, no-head b);
       falls = λ j. omega (arith, no-next j);
       chained = λ j lt. absurd (omega arith);
-      none = λ j lt. absurd (omega arith);
     }
 
 pub zeros-at : (n i : ℕ) → _≡_ {A = ℕ} (getD (replicate n 0) i 0) 0
@@ -148,9 +146,9 @@ module _ (s heads nexts : List ℕ) (k b : ℕ) (l : Linked s heads nexts k) (fe
       let up : k + 1 ≡ j + 1 = omega arith in
       ap (λ i. getD (set heads b (k + 1)) i 0) own ∙ getD-set-same heads b (k + 1) 0 in-heads ∙ up
 
-  -- Row k, which repeats no lower row, is put in front of its chain.
-  pub linked-more : b < 1024 → repeatsLower s k ≡ false → Linked s (set heads b (k + 1)) (set nexts k (getD heads b 0)) (k + 1)
-  linked-more below new =
+  -- Row k is put in front of its chain.
+  pub linked-more : b < 1024 → Linked s (set heads b (k + 1)) (set nexts k (getD heads b 0)) (k + 1)
+  linked-more below =
       record {
         heads-size = length-set heads b (k + 1) ∙ l .heads-size;
         nexts-size = length-set nexts k (getD heads b 0) ∙ l .nexts-size;
@@ -160,7 +158,6 @@ module _ (s heads nexts : List ℕ) (k b : ℕ) (l : Linked s heads nexts k) (fe
             (λ q. here (head-now j q below))
             (λ lower. reaches-more (bucketOf (rowAt s j)) j below (l .chained j lower))
             (split j lt);
-        none = λ j lt. ⊎-elim (λ q. rw q new) (λ lower. l .none j lower) (split j lt);
       }
     where
       split : (j : ℕ) → j < k + 1 → (j ≡ k) ⊎ (j < k)

@@ -1,25 +1,28 @@
 -- What callers of this library may cite, and they cite this file alone: what `admit`'s answer says of the rows, a row's fields from its tree and the tree from its fields, one number for a tree, and what each answer about a formula says of it. Assumes nothing.
-use Prim.Native.Nat.{ℕ, _+_, _-_, _≤_, _<_, _%_}
-use mathlib.Core.Path.{_≡_, refl, sym, ap, _∙_}
+use Prim.Native.Nat.{ℕ, _-_, _≤_, _<_, _%_}
+use mathlib.Core.Path.{_≡_, refl, ap, _∙_}
 use mathlib.Core.Bool.{Bool, true, false, cond, not, false≢true}
 use mathlib.Core.List.{List}
 use lib.ListN.{length, List·getD-eq-default}
 use native.Mathlib.Omega.{arith}
 use lib.Dec.{eqb, ltb, leb}
-use borrow.Author.Tests.{ltb-false}
+use borrow.Author.Tests.{ltb-false, eqb-true, eq-eqb}
 use Rattle.words.specs.Words.{absent}
-use Rattle.words.specs.Ranges.{lowest}
-use Rattle.words.proofs.Tests.{or-false}
-use Rattle.words.proofs.Ranges.{any-false, lowest-any}
+use Rattle.words.proofs.Tests.{or-false, not-both, one-answer}
+use Rattle.words.proofs.Searches.{passed-beyond}
 use Rattle.formula_book.specs.Terms.{agents, data-objects, object, parameter, variable, absent-term, no-term, classOf, isObject, sameSort}
-use Rattle.formula_book.specs.Formulas.{no-formula, isPolicy, isAction, isPredicate, nodes}
-use Rattle.formula_book.specs.Book.{rowBytes, rowAt, bookRows, treeIn, treeOf, trees, book, badFormula, repeatsLower}
+use Rattle.formula_book.specs.Formulas.{Formula, no-formula, same, isPolicy, isAction, isPredicate, nodes}
+use Rattle.formula_book.specs.Book.{Row, rowBytes, rowAt, bookRows, treeIn, treeOf, trees, book, badFormula, sameRow, repeatsLower}
 use Rattle.formula_book.specs.Nodes.{GoodRow}
 use Rattle.formula_book.specs.Admission.{BookAnswer, admitted, misshapen, bad-row, repeated-row, isMisshapen, firstBad, firstRepeat, bookAnswer}
 use Rattle.formula_book.proofs.Instancing.{shape-tree}
-use Rattle.formula_book.proofs.OneNumber.{fieldsOf, Has, fields, one-number}
-use Rattle.formula_book.proofs.Trees.{Shape, trees-length, row-shape, row-small}
+use Rattle.formula_book.proofs.OneNumber.{Has, fields, one-number}
+use Rattle.formula_book.proofs.Trees.{trees-length, row-shape, row-small}
 use Rattle.formula_book.proofs.Fielding.{shape-policy, shape-action, shape-predicate}
+use Rattle.formula_book.proofs.Comparing.{same-as-row}
+pub use Rattle.formula_book.proofs.Trees.{Shape}
+unfoldable pub use Rattle.formula_book.proofs.OneNumber.{fieldsOf}
+pub use Rattle.formula_book.proofs.Comparing.{Proper, other-kind, predicate-proper, owns-proper, says-proper, and-proper, implies-proper, each-use-proper, once-proper, says-kind, and-kind, for-all-kind, implies-kind, communicates-kind, creates-kind, user-action-kind, body-policy, put-policy}
 pub use Rattle.formula_book.proofs.Same.{same-is, same-true, same-of, same-refl, same-false}
 pub use Rattle.formula_book.proofs.Occurrences.{has-true, mentions-is, mentions-not, closed-is, data-variable-is, policy-is, parameter-is, instance-is}
 pub use Rattle.formula_book.proofs.Data.{data-ascend, data-among}
@@ -40,12 +43,6 @@ last false true r i j k n e = absurd (false≢true (ap isAdmitted e))
 last false false true i j k n e = absurd (false≢true (ap isAdmitted e))
 last false false false i j k n e = (refl, (refl, (refl, cc)))
 
--- Where the lowest row that fails a test is beyond them all, none does.
-none-low : (p : ℕ → Bool) (count k : ℕ) → ltb (lowest p count 0) count ≡ false → k < count → p k ≡ false
-none-low p count k e below =
-    let all : 0 + count ≡ count = omega arith in
-    any-false p count 0 (sym (rw all at (lowest-any p count 0)) ∙ e) k (omega arith) (omega arith)
-
 -- The laws of an admitted book of n rows.
 module _ (s : List ℕ) (n : ℕ) (is : bookAnswer s ≡ admitted n) where
   parts : (isMisshapen s ≡ false) × ((ltb (firstBad s) (bookRows s) ≡ false) × ((ltb (firstRepeat s) (bookRows s) ≡ false) × (bookRows s ≡ n)))
@@ -61,11 +58,11 @@ module _ (s : List ℕ) (n : ℕ) (is : bookAnswer s ≡ admitted n) where
 
   pub admitted-good : (k : ℕ) → k < n → badFormula s (book s) k ≡ false
   unfolding firstBad
-  admitted-good k below = none-low (badFormula s (book s)) (bookRows s) k (parts .1 .0) (omega (arith, admitted-count))
+  admitted-good k below = passed-beyond (badFormula s (book s)) (bookRows s) (parts .1 .0) k (omega (arith, admitted-count))
 
   pub admitted-once : (k : ℕ) → k < n → repeatsLower s k ≡ false
   unfolding firstRepeat
-  admitted-once k below = none-low (repeatsLower s) (bookRows s) k (parts .1 .1 .0) (omega (arith, admitted-count))
+  admitted-once k below = passed-beyond (repeatsLower s) (bookRows s) (parts .1 .1 .0) k (omega (arith, admitted-count))
 
   pub admitted-row : (row : ℕ) → row < n → GoodRow s row
   admitted-row row below =
@@ -80,6 +77,17 @@ module _ (s : List ℕ) (n : ℕ) (is : bookAnswer s ≡ admitted n) where
   admitted-one-number j k j-in k-in =
       one-number s (λ i below. admitted-good i (omega (arith, admitted-count))) (λ i below. admitted-once i (omega (arith, admitted-count))) j k
       (omega (arith, admitted-count)) (omega (arith, admitted-count))
+
+  -- A formula is another just if their numbers are equal, and the one of a row just if it has that row.
+  pub number-same : (f g : ℕ) → f < n → g < n → same (treeIn (book s) f) (treeIn (book s) g) ≡ eqb f g
+  number-same f g f-in g-in =
+      one-answer (same (treeIn (book s) f) (treeIn (book s) g)) (same-is (treeIn (book s) f) (treeIn (book s) g))
+      (λ e. ap (treeIn (book s)) (eqb-true f g e), λ e. eq-eqb f g (admitted-one-number f g f-in g-in e))
+
+  pub row-same : (f : ℕ) (r : Row) → f < n → Proper (book s) n r → same (treeIn (book s) f) (treeOf (book s) r) ≡ sameRow (rowAt s f) r
+  row-same f r f-in =
+      same-as-row (row-shape s f (admitted-good f f-in) (omega (arith, admitted-count)))
+      (λ i j i-low j-low. admitted-one-number i j (omega arith) j-low)
 
 -- The laws of a row that may be asked about.
 module _ (s : List ℕ) (row : ℕ) (g : GoodRow s row) where
@@ -113,6 +121,12 @@ module _ (s : List ℕ) (row : ℕ) (g : GoodRow s row) where
 pub beyond : (s : List ℕ) (n k : ℕ) → bookAnswer s ≡ admitted n → n ≤ k → treeIn (book s) k ≡ no-formula
 unfolding book treeIn
 beyond s n k is le = List·getD-eq-default (trees s (bookRows s)) no-formula (omega (arith, trees-length s (bookRows s), admitted-count s n is))
+
+-- So a number whose tree passes a test that no-formula fails is one of the book.
+pub number-inside : (s : List ℕ) (n k : ℕ) (is : Formula → Bool) → bookAnswer s ≡ admitted n → is no-formula ≡ false → is (treeIn (book s) k) ≡ true → k < n
+number-inside s n k is a none here =
+    let within : n ≤ k → ⊥ = λ le. not-both here (ap is (beyond s n k a le) ∙ none) in
+    omega (arith, within)
 
 -- The agents are the numbers below 16,384.
 pub agent-is : (t : ℕ) → isObject agents (classOf t) ≡ ltb t 16384

@@ -14,4 +14,5 @@ pub mod Sizing
 pub mod Replies
 pub mod DataWalking
 pub mod Instancing
+pub mod Comparing
 pub mod Laws

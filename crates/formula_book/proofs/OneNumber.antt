@@ -84,7 +84,7 @@ one-part :
 one-part l j k a b (number m) low h i = cc
 one-part l j k a b (formula f) low h i = low a b (h .0) (i .0) cc
 
-one-row :
+pub one-row :
     (l : List Formula) (j k : ℕ) (q r : Row) (f : Fields) → ((m n : ℕ) → m < j → n < k → treeIn l m ≡ treeIn l n → m ≡ n) →
     Has l j q f → Has l k r f → q ≡ r
 one-row l j k q r f low h i =
@@ -95,7 +95,7 @@ one-row l j k q r f low h i =
     let z : q .z ≡ r .z = cc in
     λ d. record { kind = kind d; code = code d; x = x d; y = y d; z = z d }
 
-same-row : (q r : Row) → q ≡ r → sameRow q r ≡ true
+pub same-row : (q r : Row) → q ≡ r → sameRow q r ≡ true
 unfolding sameRow
 same-row q r e =
     let at : (f : Row → ℕ) → eqb (f q) (f r) ≡ true = λ f. eq-eqb (f q) (f r) (ap f e) in

@@ -22,6 +22,7 @@ pub use data_walk::data_of;
 pub use instances::policy_instance;
 pub use rows::Row;
 pub use rows::row_at;
+pub use rows::same_row;
 pub use sought::Sought;
 pub use sought::is_instance;
 pub use terms::Sort;

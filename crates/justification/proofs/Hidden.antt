@@ -20,7 +20,7 @@ use Rattle.case_file.specs.Case.{caseOf}
 use Rattle.case_file.specs.Alike.{Alike}
 use Rattle.case_file.specs.Parts.{Parted}
 use Rattle.case_file.proofs.Same.{Same, same}
-use Rattle.case_file.proofs.Struck.{framed-struck, alike-struck, rows-stay-good}
+use Rattle.case_file.proofs.Struck.{parted-struck, alike-struck, rows-stay-good}
 use Rattle.justification.specs.Outcome.{Finding, finding, noProof, needlessProof, owes, ending, report, outcome}
 use Rattle.justification.specs.Demands.{WellMade, UnseenRowsAreUnseen, AsIfStruck}
 
@@ -65,14 +65,14 @@ module _ (s room : List ℕ) (w : WellMade s room) where
       eq-false-eq-not-eq-true (any (faultyPart s) 8 0) .0
       (λ e. never 2 (lowest (faultyPart s) 8 0) (inr (inl refl)) (rw (sized, each-any 2, e)))
 
-  framed : Parted s
-  framed = record { long = sized; sound = λ p h. any-false (faultyPart s) 8 0 placed p (omega arith) h }
+  parted : Parted s
+  parted = record { long = sized; sound = λ p h. any-false (faultyPart s) 8 0 placed p (omega arith) h }
 
   rows-fine : (x y : Unit {0}) → third s ≡ accepts x → fourth s ≡ accepts y → rows-at-fault s ≡ false
   unfolding _>>_ check
   rows-fine x y e₃ e₄ =
       eq-false-eq-not-eq-true (rows-at-fault s) .0
-      (λ e. never 5 (lowest (badLogRow s (formulas s)) (count s log-part) 0) (inr (inr refl)) (from-third s (length room) framed ∙ rw (e₃, e₄, e)))
+      (λ e. never 5 (lowest (badLogRow s (formulas s)) (count s log-part) 0) (inr (inr refl)) (from-third s (length room) parted ∙ rw (e₃, e₄, e)))
 
 module _ (s t : List ℕ) (e : Same s t) where
   same-third : third s ≡ third t
@@ -98,16 +98,16 @@ from-fifth s t room f g a fine =
 
 pub unseen-rows-are-unseen : UnseenRowsAreUnseen
 unseen-rows-are-unseen s t room a ws wt =
-    let f = framed s room ws in
-    let g = framed t room wt in
+    let f = parted s room ws in
+    let g = parted t room wt in
     let e = same s t f g a in
     from-fifth s t room f g a
     (λ x y e₃ e₄. (rows-fine s room ws x y e₃ e₄, rows-fine t room wt x y (sym (same-third s t e) ∙ e₃) (sym (same-fourth s t e) ∙ e₄)))
 
 pub as-if-struck : AsIfStruck
 as-if-struck s room w =
-    let f = framed s room w in
-    let g = framed-struck s f in
+    let f = parted s room w in
+    let g = parted-struck s f in
     let a = alike-struck s f in
     let e = same s (strike s) f g a in
     from-fifth s (strike s) room f g a

@@ -1,5 +1,5 @@
 -- What a test made of `&&` and `||` says of its parts, and when a test that decides a fact fails. Assumes nothing.
-use Prim.Native.Nat.{ℕ, suc, _≤_, _<_}
+use Prim.Native.Nat.{ℕ, zero, suc, _≤_, _<_}
 use mathlib.Core.Path.{_≡_, refl, sym, _∙_}
 use mathlib.Core.Bool.{Bool, true, false, not, _&&_, _||_, true≢false, false≢true, or-assoc}
 use native.Mathlib.Nat.{eq-or-lt-of-le}
@@ -96,14 +96,11 @@ trichotomy a b = go (ltb a b) refl
     go true e = inl (ltb-true a b e)
     go false e = inr (⊎-elim (λ q. inl (sym q)) (λ l. inr l) (eq-or-lt-of-le (ltb-false a b e)))
 
--- A number that is at least n and is not n is more; so one that is none of 0 to 10 is past them, as a match leaves it.
-up : {n k : ℕ} → n ≤ k → (k ≡ n → ⊥) → suc n ≤ k
-up le ne = omega arith
+-- A number that is none of 0 to n - 1 is n or more, as a match leaves it.
+abbrev pub NoneOf : Type 0 → ℕ → ℕ → Type 0
+NoneOf A k zero = A
+NoneOf A k (suc n) = NoneOf A k n × (k ≡ n → ⊥)
 
-pub past-ten : {A : Type 0} (k : ℕ) → (((((((((((A × (k ≡ 0 → ⊥)) × (k ≡ 1 → ⊥)) × (k ≡ 2 → ⊥)) × (k ≡ 3 → ⊥)) × (k ≡ 4 → ⊥)) × (k ≡ 5 → ⊥)) × (k ≡ 6 → ⊥)) × (k ≡ 7 → ⊥)) × (k ≡ 8 → ⊥)) × (k ≡ 9 → ⊥)) × (k ≡ 10 → ⊥)) → 11 ≤ k
-past-ten k h =
-    up (up (up (up (up (up (up (up (up (up (up (omega arith) (h .0 .0 .0 .0 .0 .0 .0 .0 .0 .0 .1)) (h .0 .0 .0 .0 .0 .0 .0 .0 .0 .1)) (h .0 .0 .0 .0 .0 .0 .0 .0 .1)) (h .0 .0 .0 .0 .0 .0 .0 .1)) (h .0 .0 .0 .0 .0 .0 .1)) (h .0 .0 .0 .0 .0 .1)) (h .0 .0 .0 .0 .1)) (h .0 .0 .0 .1)) (h .0 .0 .1)) (h .0 .1)) (h .1)
-
-pub past-seven : {A : Type 0} (k : ℕ) → ((((((((A × (k ≡ 0 → ⊥)) × (k ≡ 1 → ⊥)) × (k ≡ 2 → ⊥)) × (k ≡ 3 → ⊥)) × (k ≡ 4 → ⊥)) × (k ≡ 5 → ⊥)) × (k ≡ 6 → ⊥)) × (k ≡ 7 → ⊥)) → 8 ≤ k
-past-seven k h =
-    up (up (up (up (up (up (up (up (omega arith) (h .0 .0 .0 .0 .0 .0 .0 .1)) (h .0 .0 .0 .0 .0 .0 .1)) (h .0 .0 .0 .0 .0 .1)) (h .0 .0 .0 .0 .1)) (h .0 .0 .0 .1)) (h .0 .0 .1)) (h .0 .1)) (h .1)
+pub past : (A : Type 0) (n k : ℕ) → NoneOf A k n → n ≤ k
+past A zero k h = omega arith
+past A (suc n) k h = omega (arith, past A n k (h .0), h .1)

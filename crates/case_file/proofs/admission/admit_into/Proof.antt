@@ -2,7 +2,7 @@
 use borrow.Author.Needs.{needs}
 use mathlib.Core.Path.{sym, ap, _∙_}
 use native.Mathlib.Omega.{arith}
-use Rattle.case_file.specs.Answers.{answerMeant}
+use Rattle.case_file.specs.Meanings.{answerMeant}
 use Rattle.case_file.proofs.Admitting.{refused-first, none-entered, first-passed, all-entered, first-parted, first-booked}
 use Rattle.case_file.proofs.admission.admit_into.Statement.{statement}
 use Rattle.case_file.proofs.admission.admit_into.Tie as tie

@@ -4,7 +4,8 @@ use mathlib.Core.Path.{sym, ap, _∙_}
 use native.Mathlib.Omega.{arith}
 use Rattle.formula_book.specs.Admission.{bookAnswer}
 use Rattle.formula_book.specs.Meanings as meant
-use Rattle.case_file.specs.Answers.{bookRun, answerMeant}
+use Rattle.case_file.specs.Answers.{bookRun}
+use Rattle.case_file.specs.Meanings.{answerMeant}
 use Rattle.case_file.proofs.Admitting.{refused-by-1, refused-by-2, parted, answered-by-book, long-header}
 use Rattle.case_file.proofs.admission.first_checks.Statement.{statement}
 use Rattle.case_file.proofs.admission.first_checks.Tie as tie

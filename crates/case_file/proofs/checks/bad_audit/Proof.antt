@@ -8,7 +8,7 @@ use Rattle.words.proofs.Tests.{both-second}
 use Rattle.formula_book.proofs.Laws.{agent-is}
 use Rattle.case_file.specs.Layout.{agentOf}
 use Rattle.case_file.specs.Records.{isGroundAction, badAudit}
-use Rattle.case_file.proofs.Faults.{named}
+use Rattle.case_file.proofs.Booking.{named}
 use Rattle.case_file.proofs.checks.bad_audit.Statement.{statement}
 use Rattle.case_file.proofs.checks.bad_audit.Tie as tie
 

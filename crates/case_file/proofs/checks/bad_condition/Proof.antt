@@ -7,7 +7,7 @@ use Rattle.words.specs.Words.{absent}
 use Rattle.words.proofs.Tests.{either-second}
 use Rattle.formula_book.specs.Formulas.{Formula, isPredicate, ground}
 use Rattle.case_file.specs.Records.{badCondition}
-use Rattle.case_file.proofs.Faults.{named}
+use Rattle.case_file.proofs.Booking.{named}
 use Rattle.case_file.proofs.checks.bad_condition.Statement.{statement}
 use Rattle.case_file.proofs.checks.bad_condition.Tie as tie
 

@@ -5,7 +5,7 @@ use mathlib.Core.Bool.{not, or-false, and-false}
 use borrow.Author.Tests.{ne-eqb}
 use Rattle.formula_book.specs.Formulas.{isPolicy, isAction}
 use Rattle.case_file.specs.Records.{isDuty, badLabel}
-use Rattle.case_file.proofs.Faults.{closed-named}
+use Rattle.case_file.proofs.Booking.{closed-named}
 use Rattle.case_file.proofs.checks.bad_label.Statement.{statement}
 use Rattle.case_file.proofs.checks.bad_label.Tie as tie
 

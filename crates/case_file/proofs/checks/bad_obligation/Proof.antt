@@ -4,7 +4,7 @@ use mathlib.Core.Path.{refl, sym, ap, _∙_}
 use mathlib.Core.Bool.{not}
 use Rattle.words.proofs.Tests.{fails, holds, both-second}
 use Rattle.case_file.specs.Records.{isDuty, isGroundAction, badObligation}
-use Rattle.case_file.proofs.Faults.{named}
+use Rattle.case_file.proofs.Booking.{named}
 use Rattle.case_file.proofs.checks.bad_obligation.Statement.{statement}
 use Rattle.case_file.proofs.checks.bad_obligation.Tie as tie
 

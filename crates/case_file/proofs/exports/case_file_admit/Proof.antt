@@ -1,7 +1,7 @@
 -- `case_file_admit` meets its contract: each arm has the numbers of its answer. Assumes nothing.
 use borrow.Author.Needs.{needs}
 use mathlib.Core.Path.{sym, ap, _∙_}
-use Rattle.case_file.specs.Answers.{answerMeant}
+use Rattle.case_file.specs.Meanings.{answerMeant}
 use Rattle.case_file.specs.Exports.{numbersOf, numbersMeant}
 use Rattle.case_file.proofs.exports.case_file_admit.Statement.{statement}
 use Rattle.case_file.proofs.exports.case_file_admit.Tie as tie

@@ -2,7 +2,7 @@
 use mathlib.Core.Path.{sym}
 use mathlib.Core.List.{[], _∷_}
 use lib.ListN.{List·getD-eq-default}
-use Rattle.words.proofs.Tests.{past-seven}
+use Rattle.words.proofs.Tests.{past}
 use Rattle.case_file.specs.Layout.{mostRecords}
 use Rattle.case_file.proofs.layout.most_records.Statement.{statement}
 use Rattle.case_file.proofs.layout.most_records.Tie as tie
@@ -41,7 +41,7 @@ returns-8 c = rw (c .match .keys8)
 
 returns-9 : tie.Need-returns-9
 unfolding mostRecords
-returns-9 c = sym (List·getD-eq-default (1024 ∷ 1024 ∷ 4096 ∷ 64 ∷ 64 ∷ 32 ∷ 2048 ∷ 2048 ∷ []) 0 (past-seven (c .before .args .p) (c .match .rest)))
+returns-9 c = sym (List·getD-eq-default (1024 ∷ 1024 ∷ 4096 ∷ 64 ∷ 64 ∷ 32 ∷ 2048 ∷ 2048 ∷ []) 0 (past _ 8 (c .before .args .p) (c .match .rest)))
 
 pub most-records-spec : {M : Type 1} → statement M
 most-records-spec =

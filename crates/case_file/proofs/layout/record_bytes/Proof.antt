@@ -3,7 +3,7 @@ use mathlib.Core.Path.{sym}
 use mathlib.Core.List.{[], _∷_}
 use lib.ListN.{List·getD-eq-default}
 use Rattle.formula_book.specs.Book.{rowBytes}
-use Rattle.words.proofs.Tests.{past-seven}
+use Rattle.words.proofs.Tests.{past}
 use Rattle.case_file.specs.Layout.{recordBytes}
 use Rattle.case_file.proofs.layout.record_bytes.Statement.{statement}
 use Rattle.case_file.proofs.layout.record_bytes.Tie as tie
@@ -42,7 +42,7 @@ returns-8 c = rw (c .match .keys8)
 
 returns-9 : tie.Need-returns-9
 unfolding recordBytes
-returns-9 c = sym (List·getD-eq-default (rowBytes ∷ 6 ∷ 2 ∷ 2 ∷ 4 ∷ 4 ∷ 10 ∷ 2 ∷ []) 1 (past-seven (c .before .args .p) (c .match .rest)))
+returns-9 c = sym (List·getD-eq-default (rowBytes ∷ 6 ∷ 2 ∷ 2 ∷ 4 ∷ 4 ∷ 10 ∷ 2 ∷ []) 1 (past _ 8 (c .before .args .p) (c .match .rest)))
 
 pub record-bytes-spec : {M : Type 1} → statement M
 record-bytes-spec =

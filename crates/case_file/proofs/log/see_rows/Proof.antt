@@ -1,17 +1,17 @@
 -- `see_rows` meets its contract. The loop's invariant: the rows below `k` are good, the table has their entries and is else as it was, and the next span is due at `due`. Assumes nothing.
 use borrow.Author.Needs.{needs}
-use Prim.Native.Nat.{ℕ, _-_, _≤_, _<_}
+use Prim.Native.Nat.{ℕ, _-_, _≤_}
 use mathlib.Core.Path.{_≡_, sym, ap, _∙_}
-use mathlib.Core.Bool.{false}
 use mathlib.Core.List.{List}
 use native.Mathlib.Omega.{arith}
 use lib.ListN.{length}
-use Rattle.words.proofs.Ranges.{lowest-is, lowest-none}
+use Rattle.words.proofs.Searches.{Passed, passed-start, passed-more, passed-found, passed-all}
 use Rattle.case_file.specs.Layout.{log-part, count}
-use Rattle.case_file.specs.Records.{formulas, badLogRow}
-use Rattle.case_file.specs.Seen.{SeenUpTo, dueFrom}
+use Rattle.case_file.specs.Records.{formulas, rowFrom, rowCount, spanDue, badLogRow}
+use Rattle.case_file.specs.Seen.{SeenUpTo}
 use Rattle.case_file.specs.Meanings.{toldMeant}
-use Rattle.case_file.proofs.Seeing.{rows-few, due-first, good-more, answer-bad, answer-good, due-next, seen-none, seen-more}
+use Rattle.case_file.proofs.Spans.{due-first, due-next}
+use Rattle.case_file.proofs.Seeing.{rows-few, answer-bad, answer-good, seen-none, seen-more}
 use Rattle.case_file.proofs.log.see_rows.Statement.{statement}
 use Rattle.case_file.proofs.log.see_rows.Tie as tie
 
@@ -19,9 +19,8 @@ record Turn (s : List ℕ) (n : ℕ) (old new : List ℕ) (due k : ℕ) : Type 0
   rows : n ≡ count s log-part
   few : n ≤ 1024
   room : length old ≡ 1024
-  passed : k ≤ n
-  next : due ≡ dueFrom s k
-  good : (q : ℕ) → q < k → badLogRow s (formulas s) q ≡ false
+  next : due ≡ spanDue (rowFrom s) (rowCount s) k
+  good : Passed (badLogRow s (formulas s)) (count s log-part) k
   table : SeenUpTo s k old new
 
 abbrev Inv-loop : tie.InvT-loop
@@ -41,9 +40,8 @@ loop-holds c =
       rows = c .count-of .ensures .0;
       few = omega (arith, c .count-of .ensures .0, rows-few s (st .pre .0 .0));
       room = st .pre .1;
-      passed = omega arith;
-      next = due-first s;
-      good = λ q lt. absurd (omega arith);
+      next = due-first (rowFrom s) (rowCount s);
+      good = passed-start _ _;
       table = seen-none s _;
     }
 
@@ -62,9 +60,7 @@ returns c =
     let v = l .inv in
     let s = c .before .before .before .before .before .before .before .before .args .file .now in
     let is = sym (ap toldMeant (c .enum-told .given .1)) ∙ c .before .before .tell-row .ensures in (
-      sym
-          (lowest-is (badLogRow s (formulas s)) (count s log-part) 0 (l .k) (omega arith) (omega (arith, v .rows, c .before .before .before .loop-test .taken))
-          (answer-bad s (l .k) is) (λ q from below. v .good q below)),
+      passed-found _ _ (v .good) (omega (arith, v .rows, c .before .before .before .loop-test .taken)) (answer-bad s (l .k) is),
       v .table,
     )
 
@@ -103,9 +99,8 @@ loop-again c =
       rows = v .rows;
       few = v .few;
       room = v .room;
-      passed = omega (arith, lt);
-      next = h .2 ∙ due-next s (l .k);
-      good = good-more s (l .k) (v .good) (h .0);
+      next = h .2 ∙ due-next (rowFrom s) (rowCount s) (l .k);
+      good = passed-more _ _ (v .good) (omega (arith, v .rows, lt)) (h .0);
       table = seen-more s (l .k) _ (l .views) _ (v .table) (omega (arith, lt, v .few, v .room, v .table .long)) (h .1);
     }
 
@@ -113,11 +108,9 @@ returns-2 : tie.Need-returns-2 Inv-loop μ-loop
 returns-2 c =
     let l = c .before .loop in
     let v = l .inv in
-    let s = c .before .before .before .before .before .args .file .now in
     let n = c .before .before .count-of .result in
-    let end : l .k ≡ n = omega (arith, v .passed, c .loop-test .left) in
-    let none = lowest-none (badLogRow s (formulas s)) (count s log-part) 0 (λ j from below. v .good j (omega (arith, v .rows, end))) in
-    (omega (arith, v .rows, none), rw end at (v .table))
+    let end : l .k ≡ n = omega (arith, v .rows, v .good .within, c .loop-test .left) in
+    (v .rows ∙ passed-all _ _ (v .good) (omega (arith, v .rows, end)), rw end at (v .table))
 
 pub see-rows-spec : {M : Type 1} → statement M
 see-rows-spec =

@@ -5,8 +5,8 @@ use mathlib.Core.Path.{_≡_, sym, ap, _∙_}
 use lib.Dec.{eqb}
 use native.Mathlib.Omega.{arith}
 use Rattle.case_file.specs.Layout.{log-part, observer-part, count}
-use Rattle.case_file.specs.Records.{formulas, rowAction, rowFrom, rowCount}
-use Rattle.case_file.specs.Seen.{badAction, dueFrom, spanFault, ListAnswer, rowAnswer}
+use Rattle.case_file.specs.Records.{formulas, rowAction, rowFrom, rowCount, spanDue, spanFault, badAction}
+use Rattle.case_file.specs.Seen.{ListAnswer, rowAnswer}
 use Rattle.case_file.specs.Meanings.{listedMeant, toldMeant}
 use Rattle.case_file.proofs.Seeing.{rows-few, booked-trees, span-within, listed, action-bad, span-bad, row-listed}
 use Rattle.case_file.proofs.log.tell_row.Statement.{statement}
@@ -28,7 +28,7 @@ action-is c =
 
 span-is :
     (c : tie.After-bad-span) → c .bad-span .result ≡
-    spanFault (dueFrom (second c .args .file .now) (second c .args .k)) (rowFrom (second c .args .file .now) (second c .args .k)) (rowCount (second c .args .file .now) (second c .args .k))
+    spanFault (spanDue (rowFrom (second c .args .file .now)) (rowCount (second c .args .file .now)) (second c .args .k)) (rowFrom (second c .args .file .now) (second c .args .k)) (rowCount (second c .args .file .now) (second c .args .k))
     (eqb (second c .args .k + 1) (count (second c .args .file .now) log-part)) (count (second c .args .file .now) observer-part)
 span-is c =
     rw

@@ -2,7 +2,7 @@
 use borrow.Author.Needs.{needs}
 use mathlib.Core.Bool.{or-true}
 use borrow.Author.Tests.{eq-eqb, ne-eqb, lt-ltb, le-ltb}
-use Rattle.case_file.specs.Seen.{spanFault}
+use Rattle.case_file.specs.Records.{spanFault}
 use Rattle.case_file.proofs.records.bad_span.Statement.{statement}
 use Rattle.case_file.proofs.records.bad_span.Tie as tie
 

@@ -3,7 +3,7 @@ use Prim.Native.Nat.{ℕ, _-_, _≤_}
 use mathlib.Core.Path.{_≡_, refl, sym, _∙_}
 use mathlib.Core.List.{List}
 use native.Mathlib.Omega.{arith}
-use Rattle.words.proofs.Ranges.{lowest-is, lowest-none}
+use Rattle.words.proofs.Searches.{Passed, passed-found, passed-all}
 use Rattle.formula_book.specs.Book.{book, bookRows, badFormula}
 use Rattle.formula_book.specs.Admission.{firstBad, Sizing}
 use Rattle.formula_book.proofs.Sizing.{zero-bad, sizing-none, sizing-more}
@@ -15,6 +15,10 @@ record Turn (s : List ℕ) (n : ℕ) (sizes : List ℕ) (k : ℕ) : Type 0 where
   few : n ≤ 1024
   passed : k ≤ n
   sizing : Sizing s k sizes
+
+-- The rows passed are good.
+good-rows : {s sizes : List ℕ} {k : ℕ} → Sizing s k sizes → Passed (badFormula s (book s)) (bookRows s) k
+good-rows h = record { within = h .below .inside; none = h .below .good }
 
 abbrev Inv-loop : tie.InvT-loop
 Inv-loop book n sizes₀ k₀ sizes k = Turn book n sizes k
@@ -38,10 +42,8 @@ returns c =
     let at = c .before .before .before .before in
     let v = at .loop .inv in
     let s = at .before .before .args .book .now in
-    sym
-    (lowest-is (badFormula s (book s)) (bookRows s) 0 (at .loop .k) (omega arith) (omega (arith, v .rows, c .before .before .before .loop-test .taken))
+    passed-found (badFormula s (book s)) (bookRows s) (good-rows (v .sizing)) (omega (arith, v .rows, c .before .before .before .loop-test .taken))
     (zero-bad s (at .loop .k) (sym (c .before .size-at .ensures .0) ∙ c .if1 .taken))
-    (λ q from below. v .sizing .below .good q below))
 
 cast-sizes : tie.Need-cast-sizes Inv-loop μ-loop
 cast-sizes c = omega (arith, c .before .size-at .ensures .1)
@@ -79,8 +81,7 @@ returns-2 c =
     let at = c .before in
     let v = at .loop .inv in
     let s = at .before .before .args .book .now in
-    let e = lowest-none (badFormula s (book s)) (bookRows s) 0 (λ j from below. v .sizing .below .good j (omega (arith, v .rows, c .loop-test .left))) in
-    omega (arith, v .rows, e)
+    v .rows ∙ passed-all (badFormula s (book s)) (bookRows s) (good-rows (v .sizing)) (omega (arith, v .rows, c .loop-test .left))
 
 pub first-bad-spec : {M : Type 1} → statement M
 first-bad-spec =

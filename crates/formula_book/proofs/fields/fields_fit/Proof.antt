@@ -3,7 +3,7 @@ use borrow.Author.Needs.{needs}
 use mathlib.Core.Path.{sym}
 use mathlib.Core.Bool.{false}
 use lib.ListN.{List·getD-eq-default}
-use Rattle.words.proofs.Tests.{past-ten}
+use Rattle.words.proofs.Tests.{past}
 use Rattle.formula_book.specs.Book.{book, fitTable, fieldsFit}
 use Rattle.formula_book.specs.Meanings.{rowMeant}
 use Rattle.formula_book.proofs.fields.fields_fit.Statement.{statement}
@@ -90,7 +90,7 @@ returns-12 : tie.Need-returns-12
 unfolding fieldsFit fitTable rowMeant
 returns-12 c =
     let st = c .before .before in
-    let far = past-ten (st .args .row .kind) (c .match .rest) in
+    let far = past _ 11 (st .args .row .kind) (c .match .rest) in
     sym (List·getD-eq-default (fitTable (book (st .args .book .now)) (st .args .k) (rowMeant (st .args .row))) false far)
 
 pub fields-fit-spec : {M : Type 1} → statement M

@@ -1,6 +1,6 @@
 -- `node_of` meets its contract: each arm is one entry of the definition's list, and the last what lies behind it. Assumes nothing.
 use mathlib.Core.Path.{sym}
-use Rattle.words.proofs.Tests.{past-ten}
+use Rattle.words.proofs.Tests.{past}
 use lib.ListN.{List·getD-eq-default}
 use Rattle.formula_book.specs.Nodes.{no-node, nodeOf, nodeTable}
 use Rattle.formula_book.specs.Meanings.{rowMeant, nodeMeant}
@@ -53,7 +53,7 @@ returns-11 c = rw (c .match .keys11)
 
 returns-12 : tie.Need-returns-12
 unfolding nodeOf nodeTable rowMeant nodeMeant
-returns-12 c = let far = past-ten (c .before .args .row .kind) (c .match .rest) in
+returns-12 c = let far = past _ 11 (c .before .args .row .kind) (c .match .rest) in
     sym (List·getD-eq-default (nodeTable (rowMeant (c .before .args .row))) no-node far)
 
 pub node-of-spec : {M : Type 1} → statement M

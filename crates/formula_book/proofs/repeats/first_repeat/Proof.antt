@@ -1,24 +1,24 @@
 -- `formula_book::repeats::first_repeat` meets its contract. The loop's invariant: the rows below `k` stand in the chains of their buckets, and none
 -- repeats a lower one. The same rows have one bucket, so row `k` is looked for where it must stand. Assumes nothing.
-use Prim.Native.Nat.{_+_, _-_, _≤_}
-use mathlib.Core.Path.{_≡_, refl, sym, ap, _∙_}
+use Prim.Native.Nat.{_-_}
+use mathlib.Core.Path.{refl, sym, ap, _∙_}
 use native.Mathlib.Omega.{arith}
 use borrow.Author.Needs.{needs}
-use Rattle.words.proofs.Ranges.{lowest-none}
+use Rattle.words.proofs.Searches.{Passed, passed-start, passed-more, passed-found, passed-all}
+use Rattle.formula_book.specs.Book.{repeatsLower}
 use Rattle.formula_book.specs.Chains.{bucketOf}
 use Rattle.formula_book.proofs.Chains.{Linked, linked-none, linked-asks, linked-more, zeros-at}
-use Rattle.words.proofs.Ranges.{lowest-is}
 use Rattle.formula_book.proofs.repeats.first_repeat.Statement.{statement}
 use Rattle.formula_book.proofs.repeats.first_repeat.Tie as tie
 
 abbrev Inv-loop : tie.InvT-loop
-Inv-loop book n heads₀ nexts₀ k₀ heads nexts k = (k ≤ n) × Linked book heads nexts k
+Inv-loop book n heads₀ nexts₀ k₀ heads nexts k = Passed (repeatsLower book) n k × Linked book heads nexts k
 
 abbrev μ-loop : tie.MeasureT-loop
 μ-loop book n heads₀ nexts₀ k₀ heads nexts k = n - k
 
 loop-holds : tie.Need-loop-holds Inv-loop μ-loop
-loop-holds c = (omega arith, linked-none _ _ _ refl refl (zeros-at 1024) (zeros-at 1024))
+loop-holds c = (passed-start _ _, linked-none _ _ _ refl refl (zeros-at 1024) (zeros-at 1024))
 
 row-at-requires : tie.Need-row-at-requires Inv-loop μ-loop
 row-at-requires c κs = search needs
@@ -41,9 +41,7 @@ in-chain-requires c κs =
 returns : tie.Need-returns Inv-loop μ-loop
 returns c =
     let l = c .before .before .before .before .before .before .loop in
-    sym
-    (lowest-is _ _ 0 (l .k) (omega arith) (omega arith) (sym (c .before .in-chain .ensures) ∙ c .if1 .taken)
-    (λ j from lt. l .inv .1 .none j lt))
+    passed-found _ _ (l .inv .0) (omega arith) (sym (c .before .in-chain .ensures) ∙ c .if1 .taken)
 
 mul-nexts : tie.Need-mul-nexts Inv-loop μ-loop
 mul-nexts c = search needs
@@ -72,14 +70,10 @@ loop-again c =
     let d = c .before .before .before .bucket .ensures in
     let is = d .is ∙ ap bucketOf (c .before .before .before .before .row-at .ensures) in
     let new = sym (c .before .in-chain .ensures) ∙ c .if1 .left in
-    (omega arith, linked-more _ (l .heads) (l .nexts) (l .k) _ (l .inv .1) (omega arith) is (omega arith) new)
+    (passed-more _ _ (l .inv .0) (omega arith) new, linked-more _ (l .heads) (l .nexts) (l .k) _ (l .inv .1) (omega arith) is (omega arith))
 
 returns-2 : tie.Need-returns-2 Inv-loop μ-loop
-returns-2 c =
-    let l = c .before .loop in
-    let n = c .before .before .before .args .n in
-    let end : n ≡ 0 + n = omega arith in
-    end ∙ sym (lowest-none _ n 0 (λ j from to. l .inv .1 .none j (omega arith)))
+returns-2 c = passed-all _ _ (c .before .loop .inv .0) (omega arith)
 
 pub first-repeat-spec : {M : Type 1} → statement M
 first-repeat-spec =

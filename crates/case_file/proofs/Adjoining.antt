@@ -14,11 +14,11 @@ use lib.Dec.{eqb}
 use borrow.Author.Tests.{eqb-true, ne-eqb}
 use Rattle.case_file.specs.Parts.{Parted}
 use Rattle.case_file.proofs.Parting.{part-length}
-use Rattle.case_file.specs.Layout.{headerBytes, formula-part, log-part, offset, size, end, count, part, dueOffset, faultyPart}
+use Rattle.case_file.specs.Layout.{headerBytes, formula-part, log-part, offset, size, end, count, part, dueOffset, isMisplaced, faultyPart}
 
 module _ (s : List ℕ) (f : Parted s) where
   pub due : (p : ℕ) → p < 8 → offset s p ≡ dueOffset s p
-  unfolding faultyPart
+  unfolding faultyPart isMisplaced
   due p h =
       let o = offset s p in
       let d = dueOffset s p in

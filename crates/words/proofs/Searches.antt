@@ -1,0 +1,40 @@
+-- A loop that looks for the first of the numbers below n at which a test p holds: what it has passed, and what it finds. Assumes nothing.
+use Prim.Native.Nat.{ℕ, _+_, _≤_, _<_}
+use mathlib.Core.Path.{_≡_, sym, _∙_}
+use mathlib.Core.Bool.{Bool, true, false}
+use mathlib.Core.Logic.{⊎-elim}
+use native.Mathlib.Nat.{eq-or-lt-of-le}
+use native.Mathlib.Omega.{arith}
+use lib.Dec.{ltb}
+use Rattle.words.specs.Ranges.{lowest}
+use Rattle.words.proofs.Ranges.{any-false, lowest-is, lowest-none, lowest-any}
+
+-- The test holds at none of the numbers below k.
+pub record Passed (p : ℕ → Bool) (n k : ℕ) : Type 0 where
+  pub within : k ≤ n
+  pub none : (j : ℕ) → j < k → p j ≡ false
+
+module _ (p : ℕ → Bool) (n : ℕ) where
+  pub passed-start : Passed p n 0
+  passed-start = record { within = omega arith; none = λ j below. absurd (omega arith) }
+
+  pub passed-more : {k : ℕ} → Passed p n k → k < n → p k ≡ false → Passed p n (k + 1)
+  passed-more {k} h lt e =
+      record {
+        within = omega arith;
+        none = λ j below. let le : j ≤ k = omega arith in ⊎-elim (λ q. rw q e) (λ l. h .none j l) (eq-or-lt-of-le le);
+      }
+
+  -- the loop returns k
+  pub passed-found : {k : ℕ} → Passed p n k → k < n → p k ≡ true → k ≡ lowest p n 0
+  passed-found {k} h lt e = sym (lowest-is p n 0 k (omega arith) (omega arith) e (λ j from below. h .none j below))
+
+  -- the loop has run out
+  pub passed-all : {k : ℕ} → Passed p n k → n ≤ k → n ≡ lowest p n 0
+  passed-all {k} h le = omega (arith, lowest-none p n 0 (λ j from below. h .none j (omega arith)))
+
+  -- where the lowest is beyond the numbers, the test holds at none of them
+  pub passed-beyond : ltb (lowest p n 0) n ≡ false → (k : ℕ) → k < n → p k ≡ false
+  passed-beyond e k below =
+      let all : 0 + n ≡ n = omega arith in
+      any-false p n 0 (sym (rw all at (lowest-any p n 0)) ∙ e) k (omega arith) (omega arith)
