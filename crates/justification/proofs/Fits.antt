@@ -94,7 +94,7 @@ unfolding isThat
 that-is f none e = absurd (not-both e refl)
 that-is f (some g) e = ap some (sym (same-true f g e))
 
-same-all : (fs gs : List Formula) → (sameAll fs gs ≡ true) ↔ (fs ≡ gs)
+pub same-all : (fs gs : List Formula) → (sameAll fs gs ≡ true) ↔ (fs ≡ gs)
 unfolding sameAll
 same-all [] [] = (λ e. refl, λ e. refl)
 same-all [] (g ∷ gs) = (λ e. absurd (not-both e refl), λ e. cc)

@@ -7,4 +7,10 @@ pub mod Evaluation
 pub mod Desk
 pub mod Traps
 pub mod Hidden
+pub mod Tables
+pub mod Turns
+pub mod Policies
+pub mod Fitting
+pub mod Runs
 pub mod Meanings
+pub mod Ends

@@ -1,8 +1,8 @@
 -- `justification::Verdict::numbers` meets its contract: each arm has the numbers that the definition gives its case. Assumes nothing.
 use borrow.Author.Needs.{needs}
 use Rattle.justification.specs.Meanings.{verdictMeant, numbersMeant, numbersOf}
-use Rattle.justification.proofs.Verdict.numbers.Statement.{statement}
-use Rattle.justification.proofs.Verdict.numbers.Tie as tie
+use Rattle.justification.proofs.verdict.Verdict.numbers.Statement.{statement}
+use Rattle.justification.proofs.verdict.Verdict.numbers.Tie as tie
 
 enum-known-self : tie.Need-enum-known-self
 enum-known-self c = search needs

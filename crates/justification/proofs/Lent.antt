@@ -1,0 +1,44 @@
+-- What an admitted file that is lent to the code has: parts, and a book of formulas. Assumes nothing.
+use Prim.Native.Nat.{ℕ, _≤_}
+use mathlib.Core.Path.{_≡_}
+use mathlib.Core.List.{List}
+use native.Mathlib.Omega.{arith}
+use Rattle.formula_book.specs.Book.{book}
+use Rattle.case_file.specs.Layout.{formula-part, log-part, obligation-part, label-part, step-part, premise-part, count, mostRecords}
+use Rattle.case_file.specs.Records.{formulas}
+use Rattle.case_file.specs.Parts.{Parted, Booked}
+use Rattle.case_file.proofs.Laws.{admitted-parted, admitted-booked, part-few}
+use Rattle.justification.specs.Turns.{CaseLent}
+
+module _ {s b v : List ℕ} (h : CaseLent s b v) where
+  pub lent-parted : Parted s
+  lent-parted = admitted-parted s (h .admitted)
+
+  pub lent-booked : Booked s b (count s formula-part)
+  lent-booked = rw (h .book) (admitted-booked s (h .admitted))
+
+  pub lent-trees : book b ≡ formulas s
+  unfolding formulas
+  lent-trees = rw (h .book)
+
+-- The limits of the parts.
+module _ (s : List ℕ) (h : Parted s) where
+  pub rows-few : count s log-part ≤ 1024
+  unfolding mostRecords
+  rows-few = part-few s h log-part (omega arith)
+
+  pub obligations-few : count s obligation-part ≤ 64
+  unfolding mostRecords
+  obligations-few = part-few s h obligation-part (omega arith)
+
+  pub labels-few : count s label-part ≤ 32
+  unfolding mostRecords
+  labels-few = part-few s h label-part (omega arith)
+
+  pub steps-few : count s step-part ≤ 2048
+  unfolding mostRecords
+  steps-few = part-few s h step-part (omega arith)
+
+  pub premises-few : count s premise-part ≤ 2048
+  unfolding mostRecords
+  premises-few = part-few s h premise-part (omega arith)
