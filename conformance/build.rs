@@ -11,7 +11,7 @@ fn main() {
     let here = env::var("CARGO_MANIFEST_DIR").expect("cargo names the package's folder");
     let built = Path::new(&here).join("../target/staticlib");
     println!("cargo:rustc-link-search=native={}", built.display());
-    for library in ["case_file", "formula_book"] {
+    for library in ["justification", "case_file", "formula_book"] {
         println!("cargo:rustc-link-lib=static={library}");
         println!("cargo:rerun-if-changed={}", built.join(format!("lib{library}.a")).display());
     }

@@ -23,8 +23,8 @@ pub const BY_LABEL: u16 = 13;
 pub const FOR_ALL: u16 = 14;
 pub const INSTANCE: u16 = 15;
 
-pub fn data(index: u16) -> u16 {
-    Term::DATA.start() + index
+pub const fn data(index: u16) -> u16 {
+    *Term::DATA.start() + index
 }
 
 pub fn agent_parameter(index: u16) -> u16 {
@@ -110,7 +110,7 @@ pub fn user_action(code: u8, terms: &[u16]) -> Sketch {
     sketch(10, code, terms.iter().map(|term| Is(*term)).collect())
 }
 
-#[derive(Clone)]
+#[derive(Clone, PartialEq, Eq, Hash)]
 pub struct FormulaRow {
     pub kind: u8,
     pub code: u8,

@@ -186,11 +186,11 @@ fn vector(name: &str, case: CaseFile, verdict: Verdict) -> Vector {
     }
 }
 
-fn refused(name: &str, case: CaseFile, number: u16, place: u16) -> Vector {
+pub fn refused(name: &str, case: CaseFile, number: u16, place: u16) -> Vector {
     vector(name, case, Verdict::Refused { number, place })
 }
 
-fn passed(name: &str, case: CaseFile, obligations: &[u16], rows: &[u16]) -> Vector {
+pub fn passed(name: &str, case: CaseFile, obligations: &[u16], rows: &[u16]) -> Vector {
     let verdict =
         Verdict::Passed { obligations: obligations.len() as u16, rows: rows.len() as u16 };
     Vector { written: [obligations, rows].concat(), ..vector(name, case, verdict) }

@@ -5,8 +5,16 @@
 pub mod builder;
 pub mod cases;
 pub mod checker;
+pub mod damages;
+pub mod examples;
+pub mod full_size;
+pub mod interned;
+pub mod justifications;
+pub mod output;
+pub mod papers;
 #[cfg(feature = "proved")]
 #[allow(unsafe_code)]
 pub mod proved;
 pub mod random;
+pub mod rooms;
 pub mod vectors;

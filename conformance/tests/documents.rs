@@ -6,16 +6,11 @@ use conformance::builder::CaseFile;
 use conformance::cases::{base_vectors, examples, examples_and_vectors, grant};
 use conformance::checker::{check, strike_unseen, Verdict, ABSENT};
 use conformance::random::{damage, Random};
+use conformance::rooms::{answer, PATTERN};
 use conformance::vectors::Vector;
 
-/// A room starts full of this, so that an entry written shows.
-const PATTERN: u16 = 0xA5A5;
-
-/// The verdict and the whole room after it.
 fn run(file: &[u8], entries: usize) -> (Verdict, Vec<u16>) {
-    let mut room = vec![PATTERN; entries];
-    let verdict = check(file, &mut room);
-    (verdict, room)
+    answer(check, file, entries)
 }
 
 fn assert_agrees(vector: &Vector) {

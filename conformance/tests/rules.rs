@@ -1,4 +1,5 @@
 //! Each of the sixteen rules where it fits, and near misses. Number 0 means that a step holds.
+//! With the feature `proved` the proved checker has to say the same.
 
 use conformance::builder::*;
 use conformance::checker::{check, Verdict, ABSENT};
@@ -8,7 +9,10 @@ const HOLDS: u16 = 0;
 /// The number that the last step is refused with by checks 12 to 19. No case here proves what is
 /// owed, so one whose steps all hold falls at 20 to 22.
 fn last_step(case: &CaseFile) -> u16 {
-    match check(&case.to_bytes(), &mut []) {
+    let file = case.to_bytes();
+    #[cfg(feature = "proved")]
+    conformance::rooms::agreed_in_all_rooms(&file);
+    match check(&file, &mut []) {
         Verdict::Refused { number: 20..=22, .. } => HOLDS,
         Verdict::Refused { number, place } => {
             assert_eq!(place as usize + 1, case.steps.len(), "refused {number} {place}");
@@ -112,6 +116,7 @@ fn says_and_refine() {
     assert_eq!(refine("1 says p to 2", "1 says p to 2"), 18);
     assert_eq!(refine("1 says q to 2", "1 says q to 2"), 18);
     assert_eq!(refine("2 says p to 2", "2 says q to 2"), 18);
+    assert_eq!(refine("2 says p to 2", "1 says q to 2"), 18);
     let swapped = ["1 says p to 2", "p implies q"];
     assert_eq!(step(scene(), REFINE, &swapped, ABSENT, "1 says q to 2"), 18);
 }
@@ -244,6 +249,25 @@ fn each_use_labels() {
     assert_eq!(last_step(&nested(1, 1)), 17);
     assert_eq!(last_step(&nested(1, 2)), HOLDS);
     assert_eq!(last_step(&nested(2, 1)), HOLDS);
+}
+
+/// An each-use label open in any two premises of a rule, whether or not the rule would fit.
+#[test]
+fn each_use_label_in_two_premises() {
+    for (rule, formula) in
+        [(REFINE, "1 says p to 2"), (OWNER, "1 says p to 2"), (AND, "p and p"), (IMPLIED, "p")]
+    {
+        let joined = |second| {
+            last_step(&met_twice(1, "act each use, p", second).step(rule, formula, ABSENT, &[1, 3]))
+        };
+        let fits = if rule == AND { HOLDS } else { 18 };
+        assert_eq!([1, 2].map(joined), [17, fits]);
+    }
+    let between = |second| {
+        let met = met_twice(1, "act each use, p", second).step(SUPPOSE, "act each use, p", 0, &[]);
+        last_step(&met.step(OWNER, "1 says p to 2", ABSENT, &[1, 4, 3]))
+    };
+    assert_eq!([1, 2].map(between), [17, 18]);
 }
 
 /// Formulas for the rules of for-all: "r" of two agents, "s" of a data object.

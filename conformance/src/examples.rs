@@ -1,0 +1,62 @@
+//! The case files of `examples/`: document 01's desk cases, and the worked examples of the two
+//! papers. A vector's name is its file's.
+
+use std::fs;
+use std::io;
+use std::path::{Path, PathBuf};
+
+use crate::cases;
+use crate::output::printed;
+use crate::papers;
+use crate::vectors::Vector;
+
+/// Each desk case's file, and its name among document 01's examples. Row 23 needs a short room,
+/// which no program lends: the tests have it.
+const DESK: [(&str, &str); 15] = [
+    ("grant", "Grant"),
+    ("grant-no-steps", "row 10: Grant, no steps, no premises"),
+    ("grant-other-agent", "row 11: Grant, agent 1"),
+    ("grant-argument-absent", "row 14: Grant, first argument 65535"),
+    ("grant-no-such-row", "row 15: Grant, first argument 1"),
+    ("grant-not-an-observer", "row 16: Grant, observer 1"),
+    ("grant-seen-step-alone", "row 22: Grant, seen step alone"),
+    ("creator", "Creator"),
+    ("visit", "Visit"),
+    ("visit-condition-absent", "Visit, condition absent"),
+    ("visit-no-conditions", "Visit, no conditions"),
+    ("twice", "row 17: Twice"),
+    ("twice-second-obligation", "Twice, a second obligation"),
+    ("twice-once", "Twice, kind 7 and mark 2"),
+    ("supposed", "row 21: one step supposing what is owed"),
+];
+
+pub fn all() -> Vec<Vector> {
+    let mut known = cases::examples();
+    let mut all = Vec::new();
+    for (file, name) in DESK {
+        let at = known.iter().position(|vector| vector.name == name);
+        let vector = known.swap_remove(at.expect("it is among document 01's examples"));
+        all.push(Vector { name: file.to_string(), ..vector });
+    }
+    all.extend(papers::examples());
+    all
+}
+
+/// The folder, beside this package.
+pub fn folder() -> PathBuf {
+    Path::new(env!("CARGO_MANIFEST_DIR")).join("../examples")
+}
+
+/// What the program has to print for this example.
+pub fn output(example: &Vector) -> String {
+    printed(example.file.len(), example.verdict, &example.written)
+}
+
+/// Writes each example as `NAME.case`, and what the program prints as `NAME.out`.
+pub fn write() -> io::Result<()> {
+    for example in all() {
+        fs::write(folder().join(format!("{}.case", example.name)), &example.file)?;
+        fs::write(folder().join(format!("{}.out", example.name)), output(&example))?;
+    }
+    Ok(())
+}

@@ -1,0 +1,160 @@
+//! The proved checker against the separate one: verdict, and every entry of the room.
+
+use std::collections::{BTreeMap, BTreeSet};
+use std::thread;
+
+use conformance::builder::{data, CaseFile, Step};
+use conformance::cases::{examples_and_vectors, ROOM};
+use conformance::checker::{check, Verdict, ABSENT, MOST_BYTES};
+use conformance::damages::{damaged, WAYS};
+use conformance::examples;
+use conformance::full_size::full_size;
+use conformance::justifications::{passing, slipping};
+use conformance::proved;
+use conformance::random::Random;
+use conformance::rooms::{agreed, agreed_in_all_rooms, answer, PATTERN};
+
+#[test]
+fn examples_and_base_vectors() {
+    for vector in examples_and_vectors().into_iter().chain(examples::all()) {
+        let mut room = vector.written.clone();
+        room.resize(vector.room, PATTERN);
+        let expected = (vector.verdict, room);
+        assert_eq!(agreed(&vector.file, vector.room), expected, "{}", vector.name);
+        agreed_in_all_rooms(&vector.file);
+    }
+}
+
+/// How often each answer came: 0 a pass, 1 to 23 that refusal, 24 none owed. A pass whose room is
+/// one entry too short counts as 23 too.
+#[derive(Default)]
+struct Answers([usize; 25]);
+
+impl Answers {
+    fn count(&mut self, verdict: Verdict) {
+        let at = match verdict {
+            Verdict::Passed { obligations, rows } => {
+                self.0[23] += usize::from(obligations + rows > 0);
+                0
+            }
+            Verdict::NoneOwed => 24,
+            Verdict::Refused { number, .. } => number as usize,
+        };
+        self.0[at] += 1;
+    }
+}
+
+/// Justifications that pass, with slips, and damaged.
+fn random_file(turn: usize, random: &mut Random) -> (&'static str, Vec<u8>) {
+    match turn % 8 {
+        0..=2 => ("passing", passing(random).to_bytes()),
+        3 => ("slipping", slipping(random).to_bytes()),
+        4 => damaged(&slipping(random), random),
+        _ => damaged(&passing(random), random),
+    }
+}
+
+/// The answers of a run, and how often each way of making a file was refused.
+fn run(seed: u64, turns: usize) -> (Answers, BTreeMap<&'static str, usize>) {
+    let mut random = Random(seed);
+    let (mut answers, mut refused) = (Answers::default(), BTreeMap::new());
+    for turn in 0..turns {
+        let (way, file) = random_file(turn, &mut random);
+        let verdict = agreed_in_all_rooms(&file);
+        answers.count(verdict);
+        let times = refused.entry(way).or_insert(0);
+        *times += usize::from(matches!(verdict, Verdict::Refused { .. }));
+    }
+    (answers, refused)
+}
+
+/// 300,000 files in two threads. Every refusal comes often, and each kind of damage is refused at
+/// times; what is made to pass does.
+#[test]
+fn random_justifications() {
+    let seeds = [0x0123_4567_89AB_CDEF, 0xFEDC_BA98_7654_3210];
+    let runs = thread::scope(|scope| {
+        let runs = seeds.map(|seed| scope.spawn(move || run(seed, 150_000)));
+        runs.map(|run| run.join().expect("the run ends"))
+    });
+    let mut counts = [0; 25];
+    let mut refused = BTreeMap::new();
+    for (answers, ways) in runs {
+        counts.iter_mut().zip(answers.0).for_each(|(count, more)| *count += more);
+        ways.into_iter().for_each(|(way, more)| *refused.entry(way).or_insert(0) += more);
+    }
+    println!("answers: {counts:?}\nrefused: {refused:?}");
+    assert!(counts[0] >= 100_000, "{counts:?}");
+    assert!(counts[1..].iter().all(|count| *count >= 300), "{counts:?}");
+    assert_eq!(refused.remove("passing"), Some(0));
+    assert_eq!(refused.len(), 1 + WAYS, "{refused:?}");
+    assert!(refused.values().all(|times| *times >= 100), "{refused:?}");
+}
+
+/// The generator uses all sixteen rules, both marks, and rows seen, struck and hidden.
+#[test]
+fn passing_justifications_have_everything() {
+    let mut random = Random(0x2545_F491_4F6C_DD1D);
+    let (mut rules, mut marks, mut rows) = ([0; 16], [0; 3], BTreeSet::new());
+    for _ in 0..2_000 {
+        let case = passing(&mut random);
+        case.steps.iter().for_each(|step| rules[step.rule as usize] += 1);
+        case.obligations.iter().for_each(|(mark, _)| marks[*mark as usize] += 1);
+        let kinds = case.rows.iter();
+        rows.extend(kinds.map(|row| (row.action == ABSENT, row.observers.contains(&case.agent))));
+        let passes = matches!(check(&case.to_bytes(), &mut [0; ROOM]), Verdict::Passed { .. });
+        assert!(passes);
+    }
+    assert!(rules.iter().all(|count| *count > 100), "{rules:?}");
+    assert!(marks[1..].iter().all(|count| *count > 100), "{marks:?}");
+    assert_eq!(rows.len(), 4);
+}
+
+fn refused(case: CaseFile, number: u16, place: u16) {
+    let verdict = agreed_in_all_rooms(&case.to_bytes());
+    assert_eq!(verdict, Verdict::Refused { number, place });
+}
+
+/// 2,048 steps that cite 64 obligations and 1,024 rows, so that a room of 1,088 is just enough;
+/// and the same refused at the last step or after it.
+#[test]
+fn full_size_files() {
+    let full = full_size();
+    let file = full.to_bytes();
+    assert_eq!(file.len(), MOST_BYTES - 2);
+    let verdict = agreed_in_all_rooms(&file);
+    assert_eq!(verdict, Verdict::Passed { obligations: 64, rows: 1_024 });
+    let last = 2_047;
+    let change = |change: fn(&mut Step)| full.clone().change(|case| change(&mut case.steps[2_047]));
+    let whole = change(|step| step.premises.push(0));
+    assert_eq!(whole.to_bytes().len(), MOST_BYTES);
+    refused(whole, 12, last);
+    refused(change(|step| step.premises[0] = 0), 13, last);
+    refused(change(|step| step.argument = ABSENT), 14, last);
+    refused(change(|step| step.argument = data(0)), 18, last);
+    refused(full.clone().change(|case| case.action = other_action(case)), 22, last);
+}
+
+/// An action of the agent that owes something else than is proved: the one told in the log, by
+/// the agent.
+fn other_action(case: &mut CaseFile) -> u16 {
+    let told = case.rows[1_023].action as usize;
+    case.formulas[1_023] = case.formulas[told].clone();
+    case.formulas[1_023].fields[0] = case.agent;
+    1_023
+}
+
+/// A stack of 64 KiB is enough for the largest files, with the thread's own frames.
+#[test]
+fn stack_of_64_kib() {
+    let last_refused = full_size().change(|case| case.steps[2_047].argument = ABSENT);
+    for file in [full_size().to_bytes(), last_refused.to_bytes()] {
+        let expected = answer(check, &file, ROOM);
+        let found = thread::Builder::new()
+            .stack_size(64 * 1024)
+            .spawn(move || answer(proved::check, &file, ROOM))
+            .expect("a thread starts")
+            .join();
+        assert_eq!(found.expect("the thread ends"), expected);
+    }
+}

@@ -1,0 +1,4 @@
+-- What the program prints.
+pub mod Input
+pub mod Text
+pub mod Report

@@ -1,0 +1,208 @@
+/*
+** justification.h: check one justification for an audit log. This is the
+** interface for C and its manual.
+**
+** An agent has acted. The case file holds the grounds: the audited action, the
+** shared log, readings that were certified, obligations, and the steps of a
+** justification. justification_check tells whether the steps prove what the
+** agent owes for the action, and if not, which check fails first and where.
+**
+** Link with libjustification.a. The verdict and every entry of the room are
+** proved to be what the rules give, for every file, damaged ones too, and every
+** room. What C has to keep is said at "What the caller keeps".
+**
+**     uint16_t room[JUSTIFICATION_ROOM];
+**     struct justification_verdict v =
+**         justification_check(file, file_bytes, room, JUSTIFICATION_ROOM);
+**     if (v.kind == JUSTIFICATION_PASSED) {
+**         first v.first entries of room: obligations; next v.second: log rows
+**     }
+*/
+#ifndef JUSTIFICATION_H
+#define JUSTIFICATION_H
+
+#include <stddef.h>
+#include <stdint.h>
+
+#ifdef __cplusplus
+extern "C" {
+#endif
+
+/*
+** Limits.
+**
+** A file has at most 47,652 bytes; a longer one is refused by 1, so a caller
+** never needs to read more than one byte beyond. A pass never writes more than
+** 1,088 entries (64 obligations and 1,024 rows): a room of that many is always
+** long enough. A shorter one will do if fewer are cited; see refusal 23.
+*/
+#define JUSTIFICATION_LARGEST_FILE 47652
+#define JUSTIFICATION_ROOM 1088
+
+/*
+** A verdict: kind, and two values whose meaning depends on it.
+**
+** kind 0, passed. The justification proves what is owed. first is the number
+**     of obligations it discharges, second the number of log rows it cites.
+**     The room's first entries hold the obligations, the entries after them
+**     the rows: ascending, each once, numbered from 0 as in the file. For the
+**     desk: the action was allowed. The duties listed are used up or relied
+**     on, and the rows listed are what the agent's right rests on.
+** kind 1, none owed. This action asks nothing of this agent, and the file
+**     claims nothing. first and second are 0. For the desk: nothing to do.
+** kind 2, refused. first is the number of the first check that fails, second
+**     its place; both are told below. For the desk: the action is not
+**     justified by this file. It may be by another.
+*/
+struct justification_verdict {
+    uint16_t kind;
+    uint16_t first;
+    uint16_t second;
+};
+
+#define JUSTIFICATION_PASSED 0
+#define JUSTIFICATION_NONE_OWED 1
+#define JUSTIFICATION_REFUSED 2
+
+/*
+** Refusals, in the order in which the checks are made: 1 to 11 by number, the
+** lowest place first; then step by step, each through 12 to 19; then 20 to 23.
+** One exception: where a step cites a log row that is struck out, 16 is tried
+** before 14. All places are counted from 0.
+**
+** The file is damaged or not a case file. Ask whoever sent it for a good one.
+**
+**  1  It has under 36 or over 47,652 bytes. Place: 0.
+**  2  A part is not where it is due, has no whole number of records or too
+**     many, or the last part and the file do not end together; or there are
+**     observers without log rows, or premises without steps. Place: the part
+**     (0 formulas, 1 log rows, 2 observers, 3 conditions, 4 obligations, 5
+**     labels, 6 steps, 7 premises).
+**  3  A formula is not well made. Place: the formula's row.
+**  4  A formula stands there a second time. Place: the second row.
+**  5  A log row holds no action that could have happened, or its observers are
+**     out of order or not its own. Place: the log row.
+**  6  A condition is no reading that could be certified. Place: the condition.
+**  7  An obligation has no mark 1 or 2, or no action. Place: the obligation.
+**  8  A label's mark and formula do not go together. Place: the label.
+**  9  The agent is no agent, or the audited action no action. Place: 0.
+**
+** The file is sound, and does not fit what is owed.
+**
+** 10  Something is owed, and there is no justification. Ask the agent for one.
+**     Place: 0.
+** 11  There is a justification, and nothing is owed. Most often the wrong
+**     agent or the wrong action is named. Place: 0.
+**
+** A step fails. Place: the step. All steps before it are in order. Send it back
+** to the agent with the step's number.
+**
+** 12  The step is not well made: no such rule, no closed policy, premises not
+**     where they are due or not as many as the rule takes, or an argument where
+**     there must be none.
+** 13  A premise is no earlier step, or was used before.
+** 14  What the step rests on is absent: no argument is given, no reading was
+**     certified for the condition, or the log row is struck out. A reading or
+**     the row may still be found.
+** 15  There is no such label, condition, log row or obligation.
+** 16  The agent is not among the observers of the log row. The agent cannot
+**     rest on it, whatever it holds.
+** 17  A duty owed at each use is used twice. A second such duty is needed.
+** 18  The rule does not give the step's formula from its premises and its
+**     argument. Also where a log row tells this agent nothing.
+** 19  "For all" was concluded from something assumed of one: the parameter
+**     still stands in the formula, or in what is supposed there.
+**
+** Every step is in order, and the whole is not.
+**
+** 20  A step is used by none. Place: the lowest such step, the last excepted.
+** 21  Something is still only supposed at the end. Place: the lowest label
+**     still open.
+** 22  What is proved is not what is owed. Place: the last step.
+** 23  The justification is good and the room is too short. Place: the entries
+**     needed. Call again with a room of so many.
+*/
+#define JUSTIFICATION_FILE_LENGTH 1
+#define JUSTIFICATION_FAULTY_PART 2
+#define JUSTIFICATION_BAD_FORMULA 3
+#define JUSTIFICATION_REPEATED_FORMULA 4
+#define JUSTIFICATION_BAD_LOG_ROW 5
+#define JUSTIFICATION_BAD_CONDITION 6
+#define JUSTIFICATION_BAD_OBLIGATION 7
+#define JUSTIFICATION_BAD_LABEL 8
+#define JUSTIFICATION_BAD_AUDIT 9
+#define JUSTIFICATION_NO_STEPS 10
+#define JUSTIFICATION_STEPS_NOT_OWED 11
+#define JUSTIFICATION_BAD_STEP 12
+#define JUSTIFICATION_BAD_PREMISE 13
+#define JUSTIFICATION_ABSENT 14
+#define JUSTIFICATION_NO_SUCH_ENTRY 15
+#define JUSTIFICATION_NOT_SEEN 16
+#define JUSTIFICATION_USED_TWICE 17
+#define JUSTIFICATION_MISFIT 18
+#define JUSTIFICATION_PARAMETER_NOT_FREE 19
+#define JUSTIFICATION_STEP_NOT_USED 20
+#define JUSTIFICATION_LABEL_OPEN 21
+#define JUSTIFICATION_NOT_WHAT_IS_OWED 22
+#define JUSTIFICATION_ROOM_TOO_SHORT 23
+
+/*
+** The verdict on a case file.
+**
+** file and file_bytes are the whole file. room and room_entries are where a
+** pass lists what it cites.
+**
+** What it never does. It never writes to the file. It never changes the room
+** unless the verdict is "passed", and then no entry after the two lists. It
+** never reads an entry of the room: no answer depends on what was there. It
+** takes no memory from the heap, opens nothing, prints nothing, keeps nothing
+** from one call to the next, and always returns. The tests run the largest
+** files on a stack of 64 KiB.
+**
+** Threads. There is no shared state. Any number of threads may call at once,
+** on the same file too, each with a room of its own.
+**
+** Hidden rows. A log row that the agent does not observe never shows. Put any
+** other action in that row, strike it out, or change its other observers: the
+** kind, the number, the place, the counts and every entry of the room stay the
+** same, also where a step cites the row, which is 16 in each case. The answer
+** is the one for the log with all such rows struck out. Two things are not
+** hidden: how many rows the log has, and that a file is damaged. A refusal by
+** 1, 2 or 5 may come from a row that the agent does not observe: keep it at
+** the desk. Nothing is promised of the time that a call takes.
+**
+** What the caller keeps. file is valid for file_bytes bytes, room for
+** room_entries entries of two bytes each, aligned for uint16_t, and the two do
+** not overlap. Nobody writes to them during the call. For a length of 0 pass
+** any pointer but null, such as one to a local variable; null is allowed for
+** neither.
+*/
+struct justification_verdict justification_check(const uint8_t *file,
+                                                 size_t file_bytes,
+                                                 uint16_t *room,
+                                                 size_t room_entries);
+
+/*
+** Checks 1 to 9 alone: is this a case file that can be checked at all?
+**
+** number 0 and place 0: it is. Otherwise number is that of the first of
+** checks 1 to 9 that fails and place is its place: the same that
+** justification_check would refuse it with. For a console that takes in files
+** by day and has them checked at night.
+**
+** What is said above of the file, the heap, the stack, threads and the caller
+** holds here too.
+*/
+struct justification_admission {
+    uint16_t number;
+    uint16_t place;
+};
+
+struct justification_admission justification_admit(const uint8_t *file,
+                                                   size_t file_bytes);
+
+#ifdef __cplusplus
+}
+#endif
+
+#endif
