@@ -22,12 +22,12 @@ use Rattle.justification.specs.Outcome as definition
 use Rattle.justification.specs.Outcome.{Finding, owes, isOwed, hasSteps, noProof, needlessProof, lastStep, unusedStep, openLabel, wrongEnd, needed, shortRoom, dischargedList, citedList, proof, ending, finding, report, outcome}
 use Rattle.justification.specs.Turns.{CaseLent, EarlierNumbered}
 use Rattle.justification.specs.Meanings.{verdictMeant}
-use Rattle.justification.specs.Ends.{listing, concluded, justifying, Reported, Answered}
+use Rattle.justification.specs.Ends.{listing, concluded, justifying, Reported, Answered, AdmissionAnswered}
 use Rattle.justification.specs.declared.verdict.Verdict.{Verdict}
 use Rattle.justification.specs.declared.verdict.Verdict.the-variants.{Passed, NoneOwed, Refused}
 use Rattle.justification.proofs.Order.{admission-first}
 use Rattle.justification.proofs.States.{stateAt, run-fine}
-use Rattle.justification.proofs.Hidden.{unseen-rows-are-unseen, as-if-struck}
+use Rattle.justification.proofs.Hidden.{unseen-rows-are-unseen, as-if-struck, alike-admission, struck-admission}
 use Rattle.justification.proofs.Running.{numbered}
 
 -- A refusal is reported with its number and place, and keeps the room.
@@ -150,3 +150,11 @@ pub case-lent :
 case-lent s b old v is e long seen =
     let all = rw (all-rows-entered s is) at seen in
     record { admitted = is; book = e; long = seen .long ∙ long; views = table-view s is old v all }
+
+pub admission-answered : {A : Type 0} (meant : Checked (Unit {0}) → A) (s : List ℕ) (a : A) → a ≡ meant (admission s) → AdmissionAnswered meant s a
+admission-answered meant s a e =
+    record {
+      is = e;
+      alike = λ t l ws wt. e ∙ ap meant (alike-admission s t l ws wt);
+      struck = λ w. e ∙ ap meant (struck-admission s w);
+    }

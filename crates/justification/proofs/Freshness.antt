@@ -15,7 +15,7 @@ use Rattle.case_file.specs.Layout.{label-part, mostRecords, count}
 use Rattle.case_file.specs.Records.{formulas, labelFormula, stepRule, stepFormula, stepArgument}
 use Rattle.case_file.specs.Case.{caseOf}
 use Rattle.case_file.proofs.Laws.{part-few}
-use Rattle.justification.specs.Tables.{labelsOf}
+use Rattle.tables.specs.Sets.{labelsOf}
 use Rattle.justification.specs.Turns.{IsStep, inOpenLabels}
 use Rattle.justification.specs.Fitting.{Lent}
 use Rattle.justification.specs.declared.steps.Step.{Step}

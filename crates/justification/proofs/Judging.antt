@@ -12,13 +12,14 @@ use Rattle.case_file.specs.Records.{stepFrom, stepCount, stepArgument, premiseS
 use Rattle.case_file.specs.Case.{caseOf}
 use Rattle.justification.specs.Rules.{Names, Effect}
 use Rattle.justification.specs.Steps.{State, ruleOf, premisesOf, misshapen, badPremises, joined, share, leaves, next}
-use Rattle.justification.specs.Tables.{labelsOf, marks, opensOf, stateOf, Tables}
+use Rattle.tables.specs.Sets.{labelsOf, marks, opensOf}
+use Rattle.justification.specs.Tables.{stateOf, Tables}
 use Rattle.justification.specs.Turns.{Taken, IsAbove, Standing, EarlierNumbered, PremisesBelow, citationFault, useFault, orElse, stepFault, takes, Marked}
 use Rattle.justification.specs.Runs.{JudgedAs, Stepped, touched, afterStep}
 use Rattle.justification.specs.declared.run.Judged.{Judged}
 use Rattle.justification.specs.declared.uses.Above.{Above}
 use Rattle.justification.proofs.Entries.{or-zero}
-use Rattle.justification.proofs.Tables.{opens-set}
+use Rattle.tables.proofs.Assigning.{opens-set}
 use Rattle.justification.proofs.Stepping.{premises-earlier, all-taken}
 
 module _ (s : List ℕ) (k : ℕ) (o : List ℕ) (u d : List Bool) where

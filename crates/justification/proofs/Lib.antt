@@ -7,9 +7,7 @@ pub mod SeenRows
 pub mod Sorting
 pub mod Standing
 pub mod Freshness
-pub mod Bits
 pub mod Tables
-pub mod Listing
 pub mod Lent
 pub mod Spanning
 pub mod Taking

@@ -10,9 +10,9 @@ use borrow.Author.Tests.{lt-ltb}
 use Rattle.words.specs.Ranges.{listed}
 use Rattle.case_file.specs.Records.{premiseStep}
 use Rattle.justification.specs.Steps.{badPremises}
-use Rattle.justification.specs.Tables.{marks}
+use Rattle.tables.specs.Sets.{marks}
 use Rattle.justification.specs.Turns.{takes, Taken}
-use Rattle.justification.proofs.Tables.{marks-set}
+use Rattle.tables.proofs.Assigning.{marks-set}
 use Rattle.justification.proofs.Spanning.{listed-next, listed-end, listed-all}
 
 -- The premises from j on decide as all of them do from the start.

@@ -13,10 +13,10 @@ use Rattle.case_file.specs.Layout.{label-part, count}
 use Rattle.case_file.specs.Records.{labelMark, premiseStep}
 use Rattle.case_file.specs.Case.{caseOf}
 use Rattle.justification.specs.Steps.{Labels, isEachUse, joined, share}
-use Rattle.justification.specs.Tables.{labelsOf, opensOf}
+use Rattle.tables.specs.Sets.{labelsOf, opensOf}
 use Rattle.justification.specs.Turns.{eachUseBelow, eachUseLabels, OneMore, IsAbove}
 use Rattle.justification.specs.declared.uses.Above.{Above}
-use Rattle.justification.proofs.Tables.{any-as}
+use Rattle.tables.proofs.Assigning.{any-as}
 use Rattle.justification.proofs.Spanning.{listed-next, listed-end}
 
 -- Of the numbers below l + 1 all but l are below l.

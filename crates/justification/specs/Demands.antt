@@ -5,7 +5,7 @@ use mathlib.Core.Path.{_≡_}
 use mathlib.Core.Logic.{_⊎_, _↔_}
 use mathlib.Core.List.{List, _++_}
 use lib.ListN.{length, drop}
-use Rattle.words.specs.Checks.{accepts}
+use Rattle.words.specs.Checks.{accepts, refuses}
 use Rattle.words.specs.Lists.{Among, Ascending}
 use Rattle.formula_book.specs.Formulas.{Formula, each-use}
 use Rattle.formula_book.specs.Book.{book, bookRows, treeIn, badFormula, repeatsLower}
@@ -107,6 +107,10 @@ EachUseOnce =
 -- The file is not refused by 1, 2 or 5: such a refusal is of the file's make, which an unseen row has part in.
 abbrev pub WellMade : List ℕ → List ℕ → Type 0
 WellMade s room = (n p : ℕ) → outcome s room .verdict ≡ refused n p → (n ≡ 1) ⊎ ((n ≡ 2) ⊎ (n ≡ 5)) → ⊥
+
+-- The same, of the file by itself.
+abbrev pub WellMadeFile : List ℕ → Type 0
+WellMadeFile s = (n p : ℕ) → admission s ≡ refuses n p → (n ≡ 1) ⊎ ((n ≡ 2) ⊎ (n ≡ 5)) → ⊥
 
 -- Two files that are alike to the agent have the same outcome: verdict, number, place, counts, and every entry of the room.
 abbrev pub UnseenRowsAreUnseen : Type 0

@@ -7,10 +7,11 @@ use Rattle.words.specs.Checks.{Checked, accepts, _>>_, check, checkEach}
 use Rattle.case_file.specs.Views.{strike}
 use Rattle.case_file.specs.Case.{Case}
 use Rattle.case_file.specs.Alike.{Alike}
+use Rattle.case_file.specs.Admission.{admission}
 use Rattle.justification.specs.Steps.{State}
 use Rattle.justification.specs.Outcome as definition
 use Rattle.justification.specs.Outcome.{Finding, justified, noProof, needlessProof, owes, lastStep, unusedStep, openLabel, wrongEnd, needed, shortRoom, dischargedList, citedList, ending, report, outcome}
-use Rattle.justification.specs.Demands.{WellMade}
+use Rattle.justification.specs.Demands.{WellMade, WellMadeFile}
 use Rattle.justification.specs.Meanings.{verdictMeant}
 use Rattle.justification.specs.declared.verdict.Verdict.{Verdict}
 
@@ -47,3 +48,9 @@ pub record Answered {A : Type 0} (meant : definition.Verdict → A) (s room : Li
   pub room-is : after ≡ outcome s room .room
   pub alike : (t : List ℕ) → Alike s t → WellMade s room → WellMade t room → (answer ≡ meant (outcome t room .verdict)) × (after ≡ outcome t room .room)
   pub struck : WellMade s room → (answer ≡ meant (outcome (strike s) room .verdict)) × (after ≡ outcome (strike s) room .room)
+
+-- The promise of an entry point that answers a file alone, by checks 1 to 9. Demand 3 is part of it too.
+pub record AdmissionAnswered {A : Type 0} (meant : Checked (Unit {0}) → A) (s : List ℕ) (answer : A) : Type 0 where
+  pub is : answer ≡ meant (admission s)
+  pub alike : (t : List ℕ) → Alike s t → WellMadeFile s → WellMadeFile t → answer ≡ meant (admission t)
+  pub struck : WellMadeFile s → answer ≡ meant (admission (strike s))

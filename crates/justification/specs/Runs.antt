@@ -8,7 +8,8 @@ use lib.Dec.{eqb}
 use Rattle.words.specs.Checks.{Checked, accepts, refuses}
 use Rattle.case_file.specs.Case.{Case, caseOf}
 use Rattle.justification.specs.Steps.{State, premisesOf, misshapen, joined, next, runFrom}
-use Rattle.justification.specs.Tables.{labelsOf, marks, opensOf, stateOf, Tables}
+use Rattle.tables.specs.Sets.{labelsOf, marks, opensOf}
+use Rattle.justification.specs.Tables.{stateOf, Tables}
 use Rattle.justification.specs.Turns.{takes, stepFault}
 use Rattle.justification.specs.declared.run.Judged.{Judged}
 use Rattle.justification.specs.declared.run.Ran.{Ran}

@@ -1,22 +1,11 @@
--- How the code's sets and tables are read as the definition's state.
-use Prim.Native.Nat.{ℕ, _/_, _%_, _^_}
-use mathlib.Core.Bool.{Bool, false}
+-- How the code's tables are read as the definition's state.
+use Prim.Native.Nat.{ℕ}
+use mathlib.Core.Bool.{Bool}
 use mathlib.Core.Path.{_≡_}
 use mathlib.Core.List.{List}
-use lib.ListN.{length, getD}
-use lib.Dec.{eqb}
-use Rattle.justification.specs.Steps.{Labels, State}
-
--- The labels that the binary digits of a number stand for.
-unfoldable pub labelsOf : ℕ → Labels
-labelsOf n l = eqb (n / 2 ^ l % 2) 1
-
--- A table of flags, and a table of label sets.
-unfoldable pub marks : List Bool → ℕ → Bool
-marks t k = getD t k false
-
-unfoldable pub opensOf : List ℕ → ℕ → Labels
-opensOf t k = labelsOf (getD t k 0)
+use lib.ListN.{length}
+use Rattle.tables.specs.Sets.{marks, opensOf}
+use Rattle.justification.specs.Steps.{State}
 
 -- The four tables as a state: the labels left open, the steps used, the rows cited, the obligations discharged.
 unfoldable pub stateOf : List ℕ → List Bool → List Bool → List Bool → State

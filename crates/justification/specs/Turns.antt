@@ -18,7 +18,7 @@ use Rattle.case_file.specs.Admission.{admission}
 use Rattle.case_file.specs.Case.{Case, caseOf}
 use Rattle.justification.specs.Rules.{Rule, Names, nothing, a-label, a-condition, a-row, an-obligation, a-term, Effect, keeps, adds, closes}
 use Rattle.justification.specs.Steps.{Labels, State, mustBeAbsent, ruleOf, premisesOf, misshapen, badPremises, citesAbsent, citesNothing, citesHidden, citesStruck, isARow, isAnObligation, isAdding, isEachUse, joined, share, misfit, markIf}
-use Rattle.justification.specs.Tables.{labelsOf, marks, opensOf}
+use Rattle.tables.specs.Sets.{labelsOf, marks, opensOf}
 use Rattle.justification.specs.declared.steps.Step.{Step}
 use Rattle.justification.specs.declared.uses.Above.{Above}
 

@@ -1,8 +1,4 @@
 // The end of a justification: checks 20 to 23, and the two lists.
-use crate::flags::count_marked;
-use crate::flags::first_unmarked;
-use crate::flags::write_lists;
-use crate::open_set::OpenSet;
 use crate::policies::is_that;
 use crate::policies::owed_by;
 use crate::verdict::Verdict;
@@ -14,6 +10,10 @@ use case_file::action_of;
 use case_file::agent_of;
 use case_file::count_of;
 use case_file::step_formula;
+use tables::OpenSet;
+use tables::count_marked;
+use tables::first_unmarked;
+use tables::write_lists;
 ghost use mathlib.Core.Path.{_≡_};
 ghost use mathlib.Core.List.{List};
 ghost use mathlib.Core.Bool.{Bool};
@@ -26,7 +26,8 @@ ghost use Rattle.case_file.specs.Parts.{Parted};
 ghost use Rattle.case_file.specs.Case.{caseOf};
 ghost use Rattle.justification.specs.Steps.{startState, runFrom};
 ghost use Rattle.justification.specs.Outcome.{wrongEnd};
-ghost use Rattle.justification.specs.Tables.{labelsOf, stateOf, Tables};
+ghost use Rattle.tables.specs.Sets.{labelsOf};
+ghost use Rattle.justification.specs.Tables.{stateOf, Tables};
 ghost use Rattle.justification.specs.Turns.{CaseLent, EarlierNumbered};
 ghost use Rattle.justification.specs.Ends.{listing, concluded, Reported};
 

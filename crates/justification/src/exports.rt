@@ -3,10 +3,8 @@ use crate::checker::check;
 use crate::verdict::VerdictNumbers;
 use case_file::Admission;
 use case_file::admit;
-ghost use mathlib.Core.Path.{_≡_};
-ghost use Rattle.case_file.specs.Admission.{admission};
 ghost use Rattle.case_file.specs.Exports.{numbersOf as admissionNumbers};
-ghost use Rattle.justification.specs.Ends.{Answered};
+ghost use Rattle.justification.specs.Ends.{Answered, AdmissionAnswered};
 ghost use Rattle.justification.specs.Meanings.{numbersOf, numbersMeant, admissionMeant};
 
 #[repr(C)]
@@ -26,7 +24,7 @@ pub extern "C" fn justification_check(file: &[u8], room: &mut [u16]) -> VerdictN
 // The answer to any bytes as a case file: the number and place of the first of checks 1 to 9 that fails, or 0 and 0.
 #[no_mangle]
 pub extern "C" fn justification_admit(file: &[u8]) -> AdmissionNumbers
-    ensures { λ r. ⌜ admissionMeant r ≡ admissionNumbers (admission (now (file .entry))) ⌝ }
+    ensures { λ r. ⌜ AdmissionAnswered admissionNumbers (now (file .entry)) (admissionMeant r) ⌝ }
 {
     let answer = admit(file);
     match answer {

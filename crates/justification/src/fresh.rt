@@ -1,7 +1,7 @@
 // Check 19: the parameter of rule 14 stands neither in its formula nor in a label that its premise leaves open.
-use crate::open_set::OpenSet;
 use crate::steps::Step;
 use formula_book::Sought;
+use tables::OpenSet;
 ghost use mathlib.Core.Path.{_≡_};
 ghost use mathlib.Core.Bool.{_&&_, _||_};
 ghost use Prim.Native.Nat.{_<_};
@@ -12,7 +12,7 @@ ghost use Rattle.formula_book.specs.Book.{treeIn};
 ghost use Rattle.case_file.specs.Layout.{label-part, count};
 ghost use Rattle.case_file.specs.Records.{formulas, stepRule, stepFormula, stepArgument, labelFormula};
 ghost use Rattle.case_file.specs.Case.{caseOf};
-ghost use Rattle.justification.specs.Tables.{labelsOf};
+ghost use Rattle.tables.specs.Sets.{labelsOf};
 ghost use Rattle.justification.specs.Turns.{IsStep, Standing, inOpenLabels};
 ghost use Rattle.justification.specs.Fitting.{Lent};
 

@@ -1,7 +1,6 @@
 // The steps in order, each through checks 12 to 19.
 use crate::citations::citation_fault;
 use crate::fresh::not_fresh;
-use crate::open_set::OpenSet;
 use crate::rule_table::Effect;
 use crate::rule_table::Names;
 use crate::rule_table::Shape;
@@ -17,13 +16,15 @@ use crate::uses::open_above;
 use crate::uses::used_twice;
 use case_file::STEPS;
 use case_file::count_of;
+use tables::OpenSet;
 ghost use mathlib.Core.Path.{_≡_};
 ghost use Prim.Native.Nat.{_<_};
 ghost use lib.ListN.{length};
 ghost use Rattle.case_file.specs.Layout.{step-part, count};
 ghost use Rattle.case_file.specs.Case.{caseOf};
 ghost use Rattle.justification.specs.Steps.{leaves as leavesOf, ruleOf};
-ghost use Rattle.justification.specs.Tables.{labelsOf, marks, stateOf, Tables};
+ghost use Rattle.tables.specs.Sets.{labelsOf, marks};
+ghost use Rattle.justification.specs.Tables.{stateOf, Tables};
 ghost use Rattle.justification.specs.Turns.{CaseLent, Standing, IsStep, EarlierNumbered, LabelThere, CitedThere, Marked, eachUseLabels, shapeOf, useFault};
 ghost use Rattle.justification.specs.Runs.{JudgedAs, Stepped, RunGives};
 ghost use Rattle.justification.specs.Meanings.{namesMeant, effectMeant, shapeMeant};

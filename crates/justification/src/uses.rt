@@ -1,5 +1,4 @@
 // Check 17: what may be used once only. And the labels that the premises of a step leave open together.
-use crate::open_set::OpenSet;
 use crate::rule_table::Effect;
 use crate::rule_table::Names;
 use crate::rule_table::Shape;
@@ -8,6 +7,7 @@ use case_file::count_of;
 use case_file::label_mark;
 use case_file::obligation_mark;
 use case_file::premise_step;
+use tables::OpenSet;
 ghost use mathlib.Core.Path.{_≡_};
 ghost use mathlib.Core.Bool.{false, _&&_};
 ghost use Prim.Native.Nat.{_+_, _<_, _≤_};
@@ -19,7 +19,7 @@ ghost use Rattle.case_file.specs.Records.{obligationMark};
 ghost use Rattle.case_file.specs.Parts.{Parted};
 ghost use Rattle.case_file.specs.Case.{caseOf};
 ghost use Rattle.justification.specs.Steps.{isAnObligation, isAdding};
-ghost use Rattle.justification.specs.Tables.{labelsOf, marks};
+ghost use Rattle.tables.specs.Sets.{labelsOf, marks};
 ghost use Rattle.justification.specs.Turns.{eachUseBelow, eachUseLabels, OneMore, PremisesBelow, IsAbove, ObligationThere, LabelThere, EntryThere, twiceUsed};
 ghost use Rattle.justification.specs.Meanings.{namesMeant, effectMeant, shapeMeant};
 

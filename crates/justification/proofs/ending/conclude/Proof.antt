@@ -8,7 +8,8 @@ use Rattle.words.specs.Ranges.{lowest}
 use Rattle.case_file.specs.Layout.{step-part, count}
 use Rattle.case_file.specs.Case.{caseOf}
 use Rattle.justification.specs.Outcome.{lastStep, unusedStep, openLabel}
-use Rattle.justification.specs.Tables.{marks, opensOf, stateOf}
+use Rattle.tables.specs.Sets.{marks, opensOf}
+use Rattle.justification.specs.Tables.{stateOf}
 use Rattle.justification.proofs.Lent.{lent-parted, steps-few, labels-few}
 use Rattle.justification.proofs.Concluding.{concluded-20, concluded-21, concluded-22, concluded-listing}
 use Rattle.justification.proofs.ending.conclude.Statement.{statement}

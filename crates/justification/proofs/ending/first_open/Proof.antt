@@ -3,7 +3,7 @@ use Prim.Native.Nat.{_-_}
 use mathlib.Core.Path.{sym, _∙_}
 use native.Mathlib.Omega.{arith}
 use Rattle.words.proofs.Searches.{Passed, passed-start, passed-more, passed-found, passed-all}
-use Rattle.justification.specs.Tables.{labelsOf}
+use Rattle.tables.specs.Sets.{labelsOf}
 use Rattle.justification.proofs.ending.first_open.Statement.{statement}
 use Rattle.justification.proofs.ending.first_open.Tie as tie
 

@@ -8,7 +8,8 @@ use Rattle.words.specs.Ranges.{members}
 use Rattle.case_file.specs.Layout.{obligation-part, log-part, count}
 use Rattle.case_file.specs.Case.{caseOf}
 use Rattle.justification.specs.Outcome.{needed, dischargedList, citedList}
-use Rattle.justification.specs.Tables.{stateOf, marks}
+use Rattle.tables.specs.Sets.{marks}
+use Rattle.justification.specs.Tables.{stateOf}
 use Rattle.justification.proofs.Lent.{obligations-few, rows-few}
 use Rattle.justification.proofs.Concluding.{listing-short, listing-passed}
 use Rattle.justification.proofs.ending.list_cited.Statement.{statement}

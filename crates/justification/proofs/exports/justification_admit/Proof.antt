@@ -6,6 +6,7 @@ use Rattle.case_file.specs.Exports.{numbersOf}
 use Rattle.case_file.specs.Meanings.{answerMeant}
 use Rattle.justification.specs.Meanings.{admissionMeant}
 use Rattle.justification.proofs.Refusals.{refusal-small}
+use Rattle.justification.proofs.Concluding.{admission-answered}
 use Rattle.justification.proofs.exports.justification_admit.Statement.{statement}
 use Rattle.justification.proofs.exports.justification_admit.Tie as tie
 
@@ -28,11 +29,13 @@ cast-t7 c = let told = sym (c .before .before .before .admit .ensures) ∙ ap an
 
 returns : tie.Need-returns
 unfolding answerMeant numbersOf admissionMeant
-returns c = ap numbersOf (sym (ap answerMeant (c .enum-told .given .1)) ∙ c .before .before .admit .ensures)
+returns c =
+    admission-answered numbersOf _ _ (ap numbersOf (sym (ap answerMeant (c .enum-told .given .1)) ∙ c .before .before .admit .ensures))
 
 returns-2 : tie.Need-returns-2
 unfolding answerMeant numbersOf admissionMeant
-returns-2 c = ap numbersOf (sym (ap answerMeant (c .before .answer .given .1)) ∙ c .before .before .before .admit .ensures)
+returns-2 c =
+    admission-answered numbersOf _ _ (ap numbersOf (sym (ap answerMeant (c .before .answer .given .1)) ∙ c .before .before .before .admit .ensures))
 
 pub justification-admit-spec : {M : Type 1} → statement M
 justification-admit-spec =

@@ -5,7 +5,7 @@ use mathlib.Core.Path.{_∙_}
 use mathlib.Core.Bool.{true}
 use Rattle.justification.specs.Steps.{markIf, isARow, isAnObligation}
 use Rattle.justification.specs.Meanings.{namesMeant}
-use Rattle.justification.proofs.Tables.{marks-set}
+use Rattle.tables.proofs.Assigning.{marks-set}
 use native.Mathlib.Omega.{arith}
 use Rattle.justification.proofs.run.mark_cited.Statement.{statement}
 use Rattle.justification.proofs.run.mark_cited.Tie as tie

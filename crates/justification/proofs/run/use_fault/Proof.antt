@@ -3,7 +3,7 @@ use borrow.Author.Needs.{needs}
 use mathlib.Core.Path.{_≡_, sym, ap, _∙_}
 use Rattle.case_file.specs.Case.{caseOf}
 use Rattle.justification.specs.Steps.{ruleOf, misfit}
-use Rattle.justification.specs.Tables.{labelsOf, marks}
+use Rattle.tables.specs.Sets.{labelsOf, marks}
 use Rattle.justification.specs.Turns.{shapeOf, twiceUsed, staleTerm, useFault}
 use Rattle.justification.proofs.Lent.{lent-parted}
 use Rattle.justification.proofs.Stepping.{entries-there, fit-fails, fit-holds}

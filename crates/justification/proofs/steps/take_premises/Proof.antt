@@ -4,7 +4,7 @@ use Prim.Native.Nat.{_-_}
 use mathlib.Core.Bool.{or-true}
 use native.Mathlib.Omega.{arith}
 use borrow.Author.Tests.{le-ltb}
-use Rattle.justification.specs.Tables.{marks}
+use Rattle.tables.specs.Sets.{marks}
 use Rattle.justification.proofs.Lent.{premises-few}
 use Rattle.justification.proofs.Taking.{Turn, turn-start, turn-refused, turn-next, turn-end}
 use Rattle.justification.proofs.steps.take_premises.Statement.{statement}

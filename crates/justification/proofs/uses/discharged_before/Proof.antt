@@ -4,7 +4,7 @@ use mathlib.Core.Path.{refl, sym, ap, _∙_}
 use native.Mathlib.Omega.{arith}
 use borrow.Author.Tests.{eq-eqb, ne-eqb}
 use Rattle.justification.specs.Steps.{isAnObligation}
-use Rattle.justification.specs.Tables.{marks}
+use Rattle.tables.specs.Sets.{marks}
 use Rattle.justification.specs.Meanings.{namesMeant}
 use Rattle.justification.proofs.Lent.{obligations-few}
 use Rattle.justification.proofs.uses.discharged_before.Statement.{statement}

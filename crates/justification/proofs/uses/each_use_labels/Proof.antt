@@ -4,7 +4,7 @@ use mathlib.Core.Path.{_≡_, sym, ap, _∙_}
 use mathlib.Core.List.{List}
 use native.Mathlib.Omega.{arith}
 use Rattle.case_file.specs.Layout.{label-part, count}
-use Rattle.justification.specs.Tables.{labelsOf}
+use Rattle.tables.specs.Sets.{labelsOf}
 use Rattle.justification.specs.Turns.{eachUseBelow, eachUseLabels}
 use Rattle.justification.proofs.Lent.{labels-few}
 use Rattle.justification.proofs.Using.{none-below}

@@ -3,7 +3,7 @@ use mathlib.Core.Path.{sym, ap, _∙_}
 use mathlib.Core.Bool.{or-true}
 use Rattle.case_file.specs.Case.{caseOf}
 use Rattle.justification.specs.Steps.{isAdding, isEachUse}
-use Rattle.justification.specs.Tables.{labelsOf}
+use Rattle.tables.specs.Sets.{labelsOf}
 use Rattle.justification.specs.Turns.{twiceUsed}
 use Rattle.justification.specs.Meanings.{effectMeant, shapeMeant}
 use Rattle.justification.proofs.Using.{added-is}

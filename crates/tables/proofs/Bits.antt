@@ -13,7 +13,7 @@ use borrow.Author.Tests.{ne-eqb, eqb-false, not-true}
 use Rattle.words.specs.Ranges.{any, update}
 use Rattle.words.proofs.Tests.{not-both, one-answer}
 use Rattle.words.proofs.Ranges.{any-true, any-some}
-use Rattle.justification.specs.Tables.{labelsOf}
+use Rattle.tables.specs.Sets.{labelsOf}
 
 -- The digit of n for label l, which is 0 or 1.
 abbrev digit : ℕ → ℕ → ℕ

@@ -1,4 +1,4 @@
--- `justification::flags::count_marked` meets its contract. The loop's invariant: the count is that of the first `k`. Assumes nothing.
+-- `count_marked` meets its contract. The loop's invariant: the count is that of the first `k`. Assumes nothing.
 use Prim.Native.Nat.{ℕ, _-_, _≤_}
 use mathlib.Core.Path.{_≡_, refl, ap, _∙_}
 use mathlib.Core.Logic.{⊎-elim}
@@ -6,10 +6,10 @@ use native.Mathlib.Omega.{arith}
 use lib.ListN.{length}
 use Rattle.words.specs.Ranges.{members}
 use Rattle.words.proofs.Ranges.{members-length}
-use Rattle.justification.specs.Tables.{marks}
-use Rattle.justification.proofs.Listing.{count-hit, members-miss}
-use Rattle.justification.proofs.flags.count_marked.Statement.{statement}
-use Rattle.justification.proofs.flags.count_marked.Tie as tie
+use Rattle.tables.specs.Sets.{marks}
+use Rattle.tables.proofs.Listing.{count-hit, members-miss}
+use Rattle.tables.proofs.flags.count_marked.Statement.{statement}
+use Rattle.tables.proofs.flags.count_marked.Tie as tie
 
 abbrev Inv-loop : tie.InvT-loop
 Inv-loop flags n count₀ k₀ count k = (k ≤ n) × (count ≡ length (members (marks flags) k 0))

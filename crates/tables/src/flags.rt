@@ -5,7 +5,7 @@ ghost use mathlib.Core.List.{_++_};
 ghost use Prim.Native.Nat.{_+_, _≤_};
 ghost use lib.ListN.{length, drop};
 ghost use Rattle.words.specs.Ranges.{lowest, members};
-ghost use Rattle.justification.specs.Tables.{marks as marksOf};
+ghost use Rattle.tables.specs.Sets.{marks as marksOf};
 
 // The lowest of the first `n` that has none, or `n`.
 pub fn first_unmarked(flags: &[bool], n: usize) -> usize

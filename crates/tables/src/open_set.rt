@@ -3,7 +3,7 @@ ghost use mathlib.Core.Path.{_≡_};
 ghost use mathlib.Core.Bool.{true, false, _&&_, _||_};
 ghost use Prim.Native.Nat.{_<_};
 ghost use Rattle.words.specs.Ranges.{any, update};
-ghost use Rattle.justification.specs.Tables.{labelsOf};
+ghost use Rattle.tables.specs.Sets.{labelsOf};
 
 pub struct OpenSet {
     pub bits: u32,

@@ -1,12 +1,12 @@
--- `justification::flags::write_lists` meets its contract: the first list is at the front of the room, and the second at the front of the part behind it.
+-- `write_lists` meets its contract: the first list is at the front of the room, and the second at the front of the part behind it.
 -- Assumes nothing.
 use denote.Ref.{now}
 use borrow.Author.Needs.{needs}
 use Rattle.words.specs.Ranges.{members}
-use Rattle.justification.specs.Tables.{marks}
-use Rattle.justification.proofs.Listing.{front-two}
-use Rattle.justification.proofs.flags.write_lists.Statement.{statement}
-use Rattle.justification.proofs.flags.write_lists.Tie as tie
+use Rattle.tables.specs.Sets.{marks}
+use Rattle.tables.proofs.Listing.{front-two}
+use Rattle.tables.proofs.flags.write_lists.Statement.{statement}
+use Rattle.tables.proofs.flags.write_lists.Tie as tie
 
 write-marked-requires : tie.Need-write-marked-requires
 write-marked-requires c κs = search needs

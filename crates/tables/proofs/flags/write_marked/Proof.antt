@@ -1,4 +1,4 @@
--- `justification::flags::write_marked` meets its contract. The loop's invariant: the numbers of the first `k` stand in the room, and the rest is as it was.
+-- `write_marked` meets its contract. The loop's invariant: the numbers of the first `k` stand in the room, and the rest is as it was.
 -- Assumes nothing.
 use Prim.Native.Nat.{ℕ, _+_, _-_, _≤_, _<_}
 use mathlib.Core.Path.{_≡_, refl, sym, ap, ap₂, _∙_}
@@ -8,10 +8,10 @@ use native.Mathlib.Omega.{arith}
 use lib.ListN.{length, drop, set}
 use Rattle.words.specs.Ranges.{members}
 use Rattle.words.proofs.Ranges.{members-length}
-use Rattle.justification.specs.Tables.{marks}
-use Rattle.justification.proofs.Listing.{members-hit, count-hit, members-miss, members-more, front-length, front-more}
-use Rattle.justification.proofs.flags.write_marked.Statement.{statement}
-use Rattle.justification.proofs.flags.write_marked.Tie as tie
+use Rattle.tables.specs.Sets.{marks}
+use Rattle.tables.proofs.Listing.{members-hit, count-hit, members-miss, members-more, front-length, front-more}
+use Rattle.tables.proofs.flags.write_marked.Statement.{statement}
+use Rattle.tables.proofs.flags.write_marked.Tie as tie
 
 abbrev Inv-loop : tie.InvT-loop
 Inv-loop room₀ flags n at₀ k₀ room at k =

@@ -10,7 +10,7 @@ use native.Mathlib.Omega.{arith}
 use lib.ListN.{length, getD, take, drop, set, length-append, length-drop}
 use lib.Seq.{drop-cons, set-append-seam, append-snoc, take-all, take-at, drop-at, drop-drop, drop-length}
 use borrow.Rule.Slice.PartMut.{midOf, putMid, post-is}
-use Rattle.words.specs.Ranges.{lowest, members}
+use Rattle.words.specs.Ranges.{members}
 
 module _ (p : ℕ → Bool) where
   head : (b : Bool) (x : ℕ) (r s : List ℕ) → cond b (x ∷ (r ++ s)) (r ++ s) ≡ cond b (x ∷ r) r ++ s
@@ -41,19 +41,6 @@ module _ (p : ℕ → Bool) where
       let parts = ap length (ap (λ (m : ℕ). members p m 0) whole ∙ members-split k (n - k) 0) in
       let sum = length-append (members p k 0) (members p (n - k) (0 + k)) in
       omega arith
-
-  -- The lowest from k on of the first n: k itself, or one behind it, or none.
-  pub lowest-here : (n k : ℕ) → k < n → p k ≡ true → lowest p (n - k) k ≡ k
-  unfolding lowest
-  lowest-here n k lt e = let left : n - k ≡ suc (n - (k + 1)) = omega arith in rw (left, e)
-
-  pub lowest-on : (n k : ℕ) → k < n → p k ≡ false → lowest p (n - k) k ≡ lowest p (n - (k + 1)) (k + 1)
-  unfolding lowest
-  lowest-on n k lt e = let left : n - k ≡ suc (n - (k + 1)) = omega arith in rw (left, e)
-
-  pub lowest-end : (n k : ℕ) → n ≤ k → lowest p (n - k) k ≡ k
-  unfolding lowest
-  lowest-end n k le = let left : n - k ≡ 0 = omega arith in rw left
 
 -- A list written over the front of a table: its length, and one entry more.
 pub front-length : (xs l : List ℕ) → length xs ≤ length l → length (xs ++ drop (length xs) l) ≡ length l
