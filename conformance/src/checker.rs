@@ -155,7 +155,7 @@ pub fn admit(file: &[u8]) -> Result<Case, Refusal> {
 }
 
 /// "Numbers are 16 bits, low byte first."
-fn numbers(bytes: &[u8]) -> Vec<u16> {
+pub fn numbers(bytes: &[u8]) -> Vec<u16> {
     let pairs = bytes.chunks_exact(2);
     pairs.map(|pair| u16::from_le_bytes([pair[0], pair[1]])).collect()
 }
@@ -166,7 +166,7 @@ fn check_1(file: &[u8]) -> Result<(), Refusal> {
 }
 
 /// 2: a faulty part. Gives the bytes of each part.
-fn check_2(file: &[u8]) -> Result<Vec<Range<usize>>, Refusal> {
+pub fn check_2(file: &[u8]) -> Result<Vec<Range<usize>>, Refusal> {
     let header = numbers(&file[..HEADER_BYTES]);
     let mut parts: Vec<Range<usize>> = Vec::new();
     for (place, pair) in header[2..].chunks(2).enumerate() {

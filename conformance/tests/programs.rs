@@ -2,12 +2,13 @@
 //! with `cc`, and document 01's program. And the C header by itself.
 
 use std::fs::{self, File};
-use std::io::{Seek, Write};
+use std::io::Seek;
 use std::path::{Path, PathBuf};
-use std::process::{Command, Output, Stdio};
+use std::process::{Command, Output};
 
 use conformance::checker::{Verdict, MOST_BYTES};
 use conformance::examples::{all, folder, output};
+use conformance::streams;
 use conformance::vectors::Vector;
 
 const WARNINGS: [&str; 4] = ["-Wall", "-Wextra", "-Wpedantic", "-Werror"];
@@ -41,16 +42,8 @@ fn console(test: &str) -> PathBuf {
     built
 }
 
-/// Runs a program over this input. It may stop reading before the end.
 fn run(program: &Path, input: &[u8]) -> Output {
-    let mut command = Command::new(program);
-    command.stdin(Stdio::piped()).stdout(Stdio::piped()).stderr(Stdio::piped());
-    let mut child =
-        command.spawn().unwrap_or_else(|error| panic!("{}: {error}", program.display()));
-    let mut stdin = child.stdin.take().expect("standard input is a pipe");
-    let _ = stdin.write_all(input);
-    drop(stdin);
-    child.wait_with_output().expect("the program ends")
+    streams::run(&mut Command::new(program), input)
 }
 
 #[test]
