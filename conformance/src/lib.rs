@@ -11,12 +11,16 @@ pub mod examples;
 pub mod full_size;
 pub mod interned;
 pub mod justifications;
+pub mod loads;
+pub mod mutator;
 pub mod output;
+pub mod pack;
 pub mod papers;
 #[cfg(feature = "proved")]
 #[allow(unsafe_code)]
 pub mod proved;
 pub mod random;
 pub mod rooms;
+pub mod rounds;
 pub mod streams;
 pub mod vectors;

@@ -1,0 +1,284 @@
+//! Case files that cost much to check: each brings one check or rule to its worst. And files that
+//! are alike but for their size.
+
+use crate::builder::*;
+use crate::checker::{Term, ABSENT};
+use crate::full_size::full_size;
+use crate::interned::AGENTS;
+use crate::random::{row as row_bytes, Row};
+use crate::rounds::{Rounds, AGENT};
+
+pub struct Load {
+    pub name: &'static str,
+    pub case: CaseFile,
+}
+
+/// The full-size pass, and the worst cases.
+pub fn loads() -> Vec<Load> {
+    let load = |name, case| Load { name, case };
+    vec![
+        load("full size", full_size()),
+        load("check 4, rows of one sum", rows_of_one_sum(8)),
+        load("the same, 1/8 of the size", rows_of_one_sum(1)),
+        load("check 5, wide actions", long_actions(wide)),
+        load("check 5, deep actions", long_actions(deep)),
+        load("rule 5, wide", owner_walks(wide)),
+        load("rule 5, deep", owner_walks(deep)),
+        load("rule 14, wide", for_all_walks(wide)),
+        load("rule 14, deep", for_all_walks(deep)),
+        load("rule 14, a book of for-alls", deep_for_alls()),
+        load("rule 14, 32 wide labels open", open_labels(wide)),
+        load("rule 14, 32 deep labels open", open_labels(deep)),
+    ]
+}
+
+// ---- Common parts ----
+
+/// Makes a policy of so many nodes, over one data object.
+type Policy = fn(&mut Rounds, usize) -> u16;
+
+/// For-alls around a predicate of one term.
+fn deep(rounds: &mut Rounds, nodes: usize) -> u16 {
+    let mut policy = rounds.book.add(0, 1, [data(0), ABSENT, ABSENT]).expect("a leaf is small");
+    for _ in 1..nodes {
+        policy = rounds.book.for_all(AGENTS, policy).expect("up to 64 nodes");
+    }
+    policy
+}
+
+/// Conjunctions, whose leaves have three terms each.
+fn wide(rounds: &mut Rounds, nodes: usize) -> u16 {
+    let half = nodes.saturating_sub(1) / 2;
+    match nodes {
+        0 | 1 => rounds.book.add(0, 1, [data(0); 3]).expect("a leaf is small"),
+        _ if nodes.is_multiple_of(2) => {
+            let policy = wide(rounds, nodes - 1);
+            rounds.says(1, policy, 2)
+        }
+        _ => {
+            let odd = half + usize::from(half.is_multiple_of(2));
+            let (left, right) = (wide(rounds, odd), wide(rounds, nodes - 1 - odd));
+            rounds.pair(3, left, right)
+        }
+    }
+}
+
+/// Log rows up to 1,024, with 4,096 observers, and formulas up to 1,024.
+fn filled(rounds: Rounds) -> CaseFile {
+    filled_to(rounds, 8)
+}
+
+/// Log rows and formulas up to so many eighths of the most, and only so many of the entries that
+/// are there from the start.
+fn filled_to(mut rounds: Rounds, eighths: usize) -> CaseFile {
+    let action = rounds.case.action;
+    while rounds.case.rows.len() < 128 * eighths {
+        rounds.row(action);
+    }
+    let body = rounds.p;
+    rounds.fill_book(body, 128 * eighths);
+    let mut case = rounds.finish();
+    case.conditions.truncate(8 * eighths);
+    case.obligations.truncate(8 * eighths);
+    case.labels.truncate(4 * eighths);
+    case
+}
+
+/// As many rounds from P to P by conditions as so many steps allow.
+fn condition_rounds(rounds: &mut Rounds, steps: usize) {
+    while rounds.case.steps.len() + 3 <= steps {
+        rounds.condition_round(1);
+    }
+}
+
+// ---- Worst cases ----
+
+/// The sum by which the proved library finds repeated rows (`docs/DECISIONS.md`, 44).
+fn sum(row: &Row) -> usize {
+    let field = |at: usize| u16::from_le_bytes([row[at], row[at + 1]]) as usize;
+    let tags = 859 * row[0] as usize + 758 * row[1] as usize;
+    (tags + 708 * field(2) + 764 * field(4) + 466 * field(6)) % 1_021
+}
+
+/// Check 4, in so many eighths of the full size: but for three rows, all have one sum, and most
+/// differ only in their last two fields.
+fn rows_of_one_sum(eighths: usize) -> CaseFile {
+    let mut rounds = Rounds::new();
+    condition_rounds(&mut rounds, 256 * eighths);
+    let fields = (0..).flat_map(|y| (0..*Term::DATA.end()).map(move |z| [AGENT, y, z]));
+    for fields in fields.filter(|fields| sum(&row_bytes(0, 0, *fields)) == 0) {
+        if rounds.book.rows.len() == 128 * eighths {
+            break;
+        }
+        rounds.book.add(0, 0, fields);
+    }
+    filled_to(rounds, eighths)
+}
+
+/// Check 5: 1,024 log rows, most with an action of 64 nodes of their own, and 4,096 observers.
+fn long_actions(policy: Policy) -> CaseFile {
+    let mut rounds = Rounds::new();
+    condition_rounds(&mut rounds, 2_048);
+    let policy = policy(&mut rounds, 63);
+    let room = 1_024 - rounds.book.rows.len() as u16;
+    let actions: Vec<u16> =
+        (0..room).map(|agent| rounds.communicates(agent, policy, AGENT)).collect();
+    for action in actions.iter().cycle().take(1_024) {
+        rounds.row(*action);
+    }
+    filled(rounds)
+}
+
+/// Rule 5 at every second step, each with a formula of 64 nodes. No step uses them, so the refusal
+/// is 20, after all steps.
+fn owner_walks(policy: Policy) -> CaseFile {
+    let mut rounds = Rounds::new();
+    let policy = policy(&mut rounds, 63);
+    let said = rounds.says(AGENT, policy, 1);
+    let owned = rounds.pair(1, AGENT, data(0));
+    let created = rounds.pair(9, AGENT, data(0));
+    let row = rounds.row(created);
+    while rounds.case.steps.len() + 2 <= 2_048 {
+        let seen = rounds.step(SEEN, owned, row, &[]);
+        rounds.step(OWNER, said, ABSENT, &[seen]);
+    }
+    filled(rounds)
+}
+
+/// For all and its instance in turn, from the formula that the last step gives, until so many
+/// steps are left.
+fn for_alls_in_turn(rounds: &mut Rounds, formula: u16, left: usize) {
+    let general = rounds.book.for_all(AGENTS, formula).expect("up to 64 nodes");
+    while rounds.case.steps.len() + left + 2 <= 2_048 {
+        rounds.last = rounds.step(FOR_ALL, general, agent_parameter(31), &[rounds.last]);
+        rounds.last = rounds.step(INSTANCE, formula, 5, &[rounds.last]);
+    }
+}
+
+/// Rules 14 and 15 in turn, over a formula of 64 nodes.
+fn for_all_walks(policy: Policy) -> CaseFile {
+    let mut rounds = Rounds::new();
+    rounds.case.steps.clear();
+    let rest = policy(&mut rounds, 61);
+    let policy = rounds.pair(3, rounds.p, rest);
+    let said = rounds.says(1, policy, AGENT);
+    let told = rounds.communicates(1, policy, AGENT);
+    let row = rounds.row(told);
+    let seen = rounds.step(SEEN, said, row, &[]);
+    rounds.last = rounds.step(SAYS, policy, ABSENT, &[seen]);
+    for_alls_in_turn(&mut rounds, policy, 1);
+    rounds.step(LEFT, rounds.p, ABSENT, &[rounds.last]);
+    filled(rounds)
+}
+
+/// Rules 14 and 15 in turn, over 63 for-alls around P, in a book whose every second row is a
+/// for-all of 64 nodes.
+fn deep_for_alls() -> CaseFile {
+    let mut rounds = Rounds::new();
+    let mut formulas = vec![rounds.p];
+    for level in 0..63 {
+        let general = rounds.book.for_all(AGENTS, formulas[level]).expect("64 nodes");
+        formulas.push(general);
+    }
+    for general in &formulas[1..63] {
+        rounds.last = rounds.step(FOR_ALL, *general, agent_parameter(31), &[rounds.last]);
+    }
+    for_alls_in_turn(&mut rounds, formulas[62], 62);
+    for formula in formulas[..62].iter().rev() {
+        rounds.last = rounds.step(INSTANCE, *formula, 5, &[rounds.last]);
+    }
+    while rounds.book.rows.len() + 2 <= 1_024 {
+        let x = rounds.book.rows.len() as u16;
+        let said = rounds.says(x, formulas[61], 1);
+        rounds.book.for_all(AGENTS, said).expect("64 nodes");
+    }
+    filled(rounds)
+}
+
+/// Rule 14 with all 32 labels open, each a formula of 62 nodes; then they are closed.
+fn open_labels(policy: Policy) -> CaseFile {
+    let mut rounds = Rounds::new();
+    let shared = policy(&mut rounds, 57);
+    let mut both = rounds.p;
+    for label in 0..32 {
+        let rest = rounds.says(label, shared, 2);
+        both = rounds.pair(3, rounds.p, rest);
+        let formula = rounds.pair(5, rounds.p, both);
+        rounds.case.labels[label as usize].1 = formula;
+        let supposed = rounds.step(SUPPOSE, formula, label, &[]);
+        rounds.last = rounds.step(IMPLIED, both, ABSENT, &[supposed, rounds.last]);
+        if label < 31 {
+            rounds.last = rounds.step(LEFT, rounds.p, ABSENT, &[rounds.last]);
+        }
+    }
+    for_alls_in_turn(&mut rounds, both, 1 + 4 * 32);
+    rounds.last = rounds.step(LEFT, rounds.p, ABSENT, &[rounds.last]);
+    for label in 0..32 {
+        close_label(&mut rounds, label);
+    }
+    filled(rounds)
+}
+
+/// From P: "label implies P"; the label's formula, as agent 1 tells it; and P.
+fn close_label(rounds: &mut Rounds, label: u16) {
+    let formula = rounds.case.labels[label as usize].1;
+    let implication = rounds.pair(5, formula, rounds.p);
+    let said = rounds.says(1, formula, AGENT);
+    let told = rounds.communicates(1, formula, AGENT);
+    let row = rounds.row(told);
+    let closed = rounds.step(IMPLIES_FROM_LABEL, implication, label, &[rounds.last]);
+    let seen = rounds.step(SEEN, said, row, &[]);
+    let given = rounds.step(SAYS, formula, ABSENT, &[seen]);
+    rounds.last = rounds.step(IMPLIED, rounds.p, ABSENT, &[closed, given]);
+}
+
+// ---- Growth ----
+
+/// A pass of so many eighths of the full size. Each eighth has the same mix of formulas, log rows
+/// and steps as every other.
+pub fn eighths(count: u16) -> CaseFile {
+    let mut rounds = Rounds::new();
+    for eighth in 0..count {
+        add_eighth(&mut rounds, eighth);
+    }
+    filled_to(rounds, count as usize)
+}
+
+fn add_eighth(rounds: &mut Rounds, eighth: u16) {
+    let objects = move || (16 * eighth..16 * (eighth + 1)).map(data);
+    let demand = rounds.demand();
+    let told = rounds.communicates(1, demand, AGENT);
+    for round in 0..8 {
+        let first = rounds.case.rows.len() as u16;
+        for object in objects() {
+            let created = rounds.pair(9, AGENT, object);
+            rounds.row(if round < 7 { created } else { told });
+        }
+        match round {
+            7 => (0..8).for_each(|k| rounds.obligation_round(8 * eighth + k, first + k)),
+            _ => rounds.owner_round(first, objects()),
+        }
+    }
+    for k in 0..7 {
+        rounds.condition_round(8 * eighth + k);
+    }
+    for k in 0..4 {
+        rounds.label_round(4 * eighth + k);
+    }
+    let outermost = own_for_alls(rounds, eighth);
+    rounds.fill_book(outermost, 128 * (eighth as usize + 1));
+}
+
+/// 27 for-alls around "P and a certified predicate of this eighth's own", and off again.
+fn own_for_alls(rounds: &mut Rounds, eighth: u16) -> u16 {
+    let own = rounds.book.add(0, 100 + eighth as u8, [AGENT, ABSENT, ABSENT]);
+    let own = own.expect("a leaf is small");
+    let condition = 8 * eighth + 7;
+    rounds.case.conditions[condition as usize] = own;
+    let certified = rounds.step(CONDITION, own, condition, &[]);
+    let and = rounds.pair(3, rounds.p, own);
+    rounds.last = rounds.step(AND, and, ABSENT, &[rounds.last, certified]);
+    let outermost = rounds.for_all_round(and, 27);
+    rounds.last = rounds.step(LEFT, rounds.p, ABSENT, &[rounds.last]);
+    outermost
+}

@@ -1,0 +1,42 @@
+//! Case files with what the separate checker says of them, as records for `attack/guard.c`, which
+//! shares nothing with the proved libraries' Rust side.
+
+use crate::cases::{examples_and_vectors, ROOM};
+use crate::checker::{check, Verdict};
+use crate::damages::damaged;
+use crate::examples;
+use crate::justifications::{passing, slipping};
+use crate::loads::loads;
+use crate::random::{damage, Random};
+
+/// The examples, the base vectors, and the loads.
+pub fn known_files() -> Vec<Vec<u8>> {
+    let vectors = examples_and_vectors().into_iter().chain(examples::all());
+    let loads = loads().into_iter().map(|load| load.case.to_bytes());
+    vectors.map(|vector| vector.file).chain(loads).collect()
+}
+
+/// A random justification: it passes, it has a slip, or a field or any bytes are damaged.
+pub fn random_file(random: &mut Random) -> Vec<u8> {
+    match random.below(8) {
+        0 | 1 => passing(random).to_bytes(),
+        2 => slipping(random).to_bytes(),
+        3 | 4 => damage(&passing(random).to_bytes(), random),
+        5 => (0..random.below(100)).map(|_| random.below(256) as u8).collect(),
+        _ => damaged(&passing(random), random).1,
+    }
+}
+
+/// A record: the file's length, the verdict in three numbers, the entries listed, the file.
+pub fn record(file: &[u8]) -> Vec<u8> {
+    let mut room = [0; ROOM];
+    let (numbers, listed) = match check(file, &mut room) {
+        Verdict::Passed { obligations, rows } => ([0, obligations, rows], obligations + rows),
+        Verdict::NoneOwed => ([1, 0, 0], 0),
+        Verdict::Refused { number, place } => ([2, number, place], 0),
+    };
+    let length = u16::try_from(file.len()).expect("a file has under 64 KiB");
+    let head = [length].into_iter().chain(numbers);
+    let words = head.chain(room[..listed as usize].iter().copied());
+    words.flat_map(u16::to_le_bytes).chain(file.iter().copied()).collect()
+}
