@@ -18,17 +18,23 @@ pub fn loads() -> Vec<Load> {
     let load = |name, case| Load { name, case };
     vec![
         load("full size", full_size()),
-        load("check 4, rows of one sum", rows_of_one_sum(8)),
-        load("the same, 1/8 of the size", rows_of_one_sum(1)),
+        load("check 4, rows of one sum", rows_of_one_sum(8, last_fields())),
+        load("the same, 1/8 of the size", rows_of_one_sum(1, last_fields())),
+        load("check 4, one sum and end of the key", rows_of_one_sum(8, first_fields())),
+        load("the same, 1/8 of the size", rows_of_one_sum(1, first_fields())),
         load("check 5, wide actions", long_actions(wide)),
         load("check 5, deep actions", long_actions(deep)),
+        load("check 5, nested actions", long_actions(nested)),
         load("rule 5, wide", owner_walks(wide)),
         load("rule 5, deep", owner_walks(deep)),
+        load("rule 5, nested", owner_walks(nested)),
         load("rule 14, wide", for_all_walks(wide)),
         load("rule 14, deep", for_all_walks(deep)),
+        load("rule 14, nested", for_all_walks(nested)),
         load("rule 14, a book of for-alls", deep_for_alls()),
         load("rule 14, 32 wide labels open", open_labels(wide)),
         load("rule 14, 32 deep labels open", open_labels(deep)),
+        load("rule 14, 32 nested labels open", open_labels(nested)),
     ]
 }
 
@@ -42,6 +48,21 @@ fn deep(rounds: &mut Rounds, nodes: usize) -> u16 {
     let mut policy = rounds.book.add(0, 1, [data(0), ABSENT, ABSENT]).expect("a leaf is small");
     for _ in 1..nodes {
         policy = rounds.book.for_all(AGENTS, policy).expect("up to 64 nodes");
+    }
+    policy
+}
+
+/// Duties, each to communicate the policy below it: deep on the first side, which the walks go down
+/// by calls.
+fn nested(rounds: &mut Rounds, nodes: usize) -> u16 {
+    let leaf = rounds.book.add(0, 1, [data(0), ABSENT, ABSENT]).expect("a leaf is small");
+    let mut policy = leaf;
+    for _ in 0..(nodes - 1) / 3 {
+        let told = rounds.communicates(1, policy, 2);
+        policy = rounds.pair(6, told, leaf);
+    }
+    for _ in 0..(nodes - 1) % 3 {
+        policy = rounds.says(1, policy, 2);
     }
     policy
 }
@@ -100,19 +121,29 @@ fn sum(row: &Row) -> usize {
     (tags + 708 * field(2) + 764 * field(4) + 466 * field(6)) % 1_021
 }
 
-/// Check 4, in so many eighths of the full size: but for three rows, all have one sum, and most
-/// differ only in their last two fields.
-fn rows_of_one_sum(eighths: usize) -> CaseFile {
+/// Check 4, in so many eighths of the full size: but for three rows, all have one sum.
+fn rows_of_one_sum(eighths: usize, rows: impl Iterator<Item = (u8, [u16; 3])>) -> CaseFile {
     let mut rounds = Rounds::new();
     condition_rounds(&mut rounds, 256 * eighths);
-    let fields = (0..).flat_map(|y| (0..*Term::DATA.end()).map(move |z| [AGENT, y, z]));
-    for fields in fields.filter(|fields| sum(&row_bytes(0, 0, *fields)) == 0) {
+    for (code, fields) in rows.filter(|(code, fields)| sum(&row_bytes(0, *code, *fields)) == 0) {
         if rounds.book.rows.len() == 128 * eighths {
             break;
         }
-        rounds.book.add(0, 0, fields);
+        rounds.book.add(0, code, fields);
     }
     filled_to(rounds, eighths)
+}
+
+/// Most differ only in their last two fields.
+fn last_fields() -> impl Iterator<Item = (u8, [u16; 3])> {
+    (0..).flat_map(|y| (0..*Term::DATA.end()).map(move |z| (0, [AGENT, y, z])))
+}
+
+/// All agree in the last 35 bits of the key, so that a walk passes at least so many rows before it
+/// parts from the others.
+fn first_fields() -> impl Iterator<Item = (u8, [u16; 3])> {
+    let terms = (0..*Term::DATA.end()).step_by(8);
+    terms.flat_map(|x| (0..=u8::MAX).map(move |code| (code, [x, ABSENT, ABSENT])))
 }
 
 /// Check 5: 1,024 log rows, most with an action of 64 nodes of their own, and 4,096 observers.

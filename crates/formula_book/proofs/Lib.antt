@@ -2,10 +2,11 @@
 pub mod Classes
 pub mod Same
 pub mod SameRows
-pub mod Chains
+pub mod RowTrees
 pub mod Occurrences
 pub mod Data
 pub mod Places
+pub mod DataOrder
 pub mod Trees
 pub mod OneNumber
 pub mod Walking

@@ -62,6 +62,25 @@ shape-action (communicates-row e f t) a = rw e tt
 shape-action (creates-row e f t) a = rw e tt
 shape-action (user-action-row e f g t) a = rw e tt
 
+-- which of the two it is, by its kind
+action-leaf : {l : List Formula} {k : ℕ} {r : Row} → Shape l k r → isAction (treeIn l k) ≡ true → (r .kind ≡ 8 → ⊥) → nodeOf r ≡ leaf (r .x) (r .y) (r .z)
+unfolding nodeOf nodeTable isAction
+action-leaf (predicate-row e f t) a other = rw e
+action-leaf (owns-row e f t) a other = rw e
+action-leaf (says-row e f t) a other = absurd (not-both a (rw t))
+action-leaf (and-row e f t) a other = absurd (not-both a (rw t))
+action-leaf (for-all-row e f t) a other = absurd (not-both a (rw t))
+action-leaf (implies-row e f t) a other = absurd (not-both a (rw t))
+action-leaf (each-use-row e f t) a other = absurd (not-both a (rw t))
+action-leaf (once-row e f t) a other = absurd (not-both a (rw t))
+action-leaf (communicates-row e f t) a other = absurd (other e)
+action-leaf (creates-row e f t) a other = rw e
+action-leaf (user-action-row e f g t) a other = rw e
+
+action-said : (r : Row) → r .kind ≡ 8 → nodeOf r ≡ said (r .x) (r .y) (r .z)
+unfolding nodeOf nodeTable
+action-said r e = rw e
+
 -- what is found in a node
 unfoldable pub hasNode : Sought → ℕ → List Formula → Node → Bool
 hasNode w d l (leaf x y z) = isSought w d x || isSought w d y || isSought w d z
@@ -116,6 +135,15 @@ module _ {is : Formula → Bool} {s : List ℕ} {row depth : ℕ} (g : WalkRow i
 
   pub in-action : {n : Node} → isAction (treeIn (book s) row) ≡ true → nodeOf (rowAt s row) ≡ n → InAction n
   in-action a e = rw e at (shape-action shape a)
+
+  -- the node of an action that the code has read
+  pub leaf-read : (q : rows.Row) → rowMeant q ≡ rowAt s row → isAction (treeIn (book s) row) ≡ true → (q .kind ≡ 8 → ⊥) → nodeOf (rowAt s row) ≡ leaf (q .x) (q .y) (q .z)
+  unfolding rowMeant
+  leaf-read q e a other = rw (← e) (action-leaf (rw (← e) at shape) a other)
+
+  pub said-read : (q : rows.Row) → rowMeant q ≡ rowAt s row → q .kind ≡ 8 → nodeOf (rowAt s row) ≡ said (q .x) (q .y) (q .z)
+  unfolding rowMeant
+  said-read q e kind = rw (← e) (action-said (rowMeant q) kind)
 
   pub finds : (w : Sought) → Present w → {n : Node} → nodeOf (rowAt s row) ≡ n → has w depth (treeIn (book s) row) ≡ hasNode w depth (book s) n
   finds w p e = shape-has w p depth shape ∙ ap (hasNode w depth (book s)) e
@@ -172,3 +200,17 @@ is-node (of-duty a b) = tt
 -- the definition's node of a row, from what the code has read
 pub known-node : (s : List ℕ) (row : ℕ) (r : rows.Row) {n m : nodes.Node} → rowMeant r ≡ rowAt s row → nodeMeant n ≡ nodeOf (rowMeant r) → n ≡ m → nodeOf (rowAt s row) ≡ nodeMeant m
 known-node s row r e q p = ap nodeOf (sym e) ∙ sym q ∙ ap nodeMeant p
+
+-- A walk that began at `row`, under `depth` for-alls, and has come to `place`, under `under`: what it finds there is what it finds in the whole.
+pub record Ahead (w : Sought) (s : List ℕ) (row depth place under : ℕ) : Type 0 where
+  pub lower : place ≤ row
+  pub may : WalkRow isPolicy s place under
+  pub same : has w under (treeIn (book s) place) ≡ has w depth (treeIn (book s) row)
+
+pub ahead-all : {w : Sought} {s : List ℕ} {row depth : ℕ} → WalkRow isPolicy s row depth → Ahead w s row depth row depth
+ahead-all g = record { lower = omega arith; may = g; same = refl }
+
+pub ahead-more :
+    {w : Sought} {s : List ℕ} {row depth place under n : ℕ} (d : ℕ) → Ahead w s row depth place under → d ≤ under + 1 → Below isPolicy (book s) place n →
+    has w d (treeIn (book s) n) ≡ has w under (treeIn (book s) place) → Ahead w s row depth n d
+ahead-more d a le b e = record { lower = omega (arith, a .lower, b .lower); may = go-on (a .may) d le b; same = e ∙ a .same }

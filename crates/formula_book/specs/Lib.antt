@@ -2,7 +2,7 @@ pub mod Terms
 pub mod Formulas
 pub mod DataSet
 pub mod Book
-pub mod Chains
+pub mod RowTrees
 pub mod Occurrences
 pub mod Nodes
 pub mod Admission

@@ -9,10 +9,10 @@ use crate::terms::Sort;
 use crate::terms::Term;
 ghost use mathlib.Core.Path.{_≡_};
 ghost use mathlib.Core.List.{[], _∷_};
-ghost use Prim.Native.Nat.{_<_, _≤_};
+ghost use Prim.Native.Nat.{_<_};
 ghost use Rattle.formula_book.specs.Terms.{agents, other};
 ghost use mathlib.Core.Bool.{_&&_};
-ghost use Rattle.formula_book.specs.Book.{termsFirst, inPlace, policyBelow, actionBelow, bindsOwnSort, sortOfCode, agentAndData, agentPolicyAgent, twoPolicies, sortAndBody, actionAndPolicy, fieldsFit, treeIn, book as trees};
+ghost use Rattle.formula_book.specs.Book.{termsFirst, inPlace, policyBelow, actionBelow, sortOfCode, agentAndData, agentPolicyAgent, twoPolicies, sortAndBody, actionAndPolicy, fieldsFit, book as trees};
 ghost use Rattle.formula_book.specs.Admission.{GoodBelow};
 ghost use Rattle.formula_book.specs.Meanings.{rowMeant, sortMeant};
 

@@ -31,54 +31,56 @@ fn three_have(w: Sought, depth: usize, x: u16, y: u16, z: u16) -> bool
     is_sought(w, depth, z)
 }
 
-// Policy `row`, which stands under `depth` for-alls.
+// Policy `row`, which stands under `depth` for-alls. A node's last policy is walked by the same loop, so that formulas deep on that side take no calls.
 pub fn policy_has(book: &[u8], w: Sought, depth: usize, row: usize) -> bool
     requires { ⌜ WalkRow isPolicy (now book) row depth ⌝ }
     requires { ⌜ Present (soughtMeant w) ⌝ }
     ensures { λ r. ⌜ r ≡ has (soughtMeant w) depth (treeIn (trees (now (book .entry))) row) ⌝ }
 {
-    match node_of(row_at(book, row)) {
-        Node::Leaf(x, y, z) => three_have(w, depth, x, y, z),
-        Node::Said(x, y, z) => {
-            if two_have(w, depth, x, z) {
-                return true;
+    let mut at = row;
+    let mut under = depth;
+    loop {
+        match node_of(row_at(book, at)) {
+            Node::Leaf(x, y, z) => return three_have(w, under, x, y, z),
+            Node::Said(x, y, z) => {
+                if two_have(w, under, x, z) {
+                    return true;
+                }
+                at = y as usize;
             }
-            policy_has(book, w, depth, y as usize)
-        }
-        Node::Pair(x, y) => {
-            if policy_has(book, w, depth, x as usize) {
-                return true;
+            Node::Pair(x, y) => {
+                if policy_has(book, w, under, x as usize) {
+                    return true;
+                }
+                at = y as usize;
             }
-            policy_has(book, w, depth, y as usize)
-        }
-        Node::Body(x) => policy_has(book, w, depth + 1, x as usize),
-        Node::Duty(x, y) => {
-            if action_has(book, w, depth, x as usize) {
-                return true;
+            Node::Body(x) => {
+                under += 1;
+                at = x as usize;
             }
-            policy_has(book, w, depth, y as usize)
+            Node::Duty(x, y) => {
+                if action_has(book, w, under, x as usize) {
+                    return true;
+                }
+                at = y as usize;
+            }
+            Node::None => return false,
         }
-        Node::None => false,
     }
 }
 
-// Action `row`, which stands under `depth` for-alls.
+// Action `row`, which stands under `depth` for-alls: a communication holds a policy, and any other action has terms alone.
 pub fn action_has(book: &[u8], w: Sought, depth: usize, row: usize) -> bool
     requires { ⌜ WalkRow isAction (now book) row depth ⌝ }
     requires { ⌜ Present (soughtMeant w) ⌝ }
     ensures { λ r. ⌜ r ≡ has (soughtMeant w) depth (treeIn (trees (now (book .entry))) row) ⌝ }
 {
-    match node_of(row_at(book, row)) {
-        Node::Leaf(x, y, z) => three_have(w, depth, x, y, z),
-        Node::Said(x, y, z) => {
-            if two_have(w, depth, x, z) {
-                return true;
-            }
-            policy_has(book, w, depth, y as usize)
-        }
-        Node::Pair(_, _) => false,
-        Node::Body(_) => false,
-        Node::Duty(_, _) => false,
-        Node::None => false,
+    let own = row_at(book, row);
+    if own.kind != 8 {
+        return three_have(w, depth, own.x, own.y, own.z);
     }
+    if two_have(w, depth, own.x, own.z) {
+        return true;
+    }
+    policy_has(book, w, depth, own.y as usize)
 }

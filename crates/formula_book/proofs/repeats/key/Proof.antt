@@ -1,0 +1,69 @@
+-- `formula_book::repeats::key` meets its contract: the fields fill 64 bits, so no product or sum wraps. Assumes nothing.
+use borrow.Author.Needs.{needs}
+use mathlib.Core.Path.{refl}
+use Rattle.formula_book.specs.Meanings.{rowMeant}
+use Rattle.formula_book.specs.RowTrees.{keyOf}
+use Rattle.formula_book.proofs.repeats.key.Statement.{statement}
+use Rattle.formula_book.proofs.repeats.key.Tie as tie
+
+cast-tags : tie.Need-cast-tags
+cast-tags c = search needs
+
+mul-tags : tie.Need-mul-tags
+mul-tags c = search needs
+
+cast-tags-2 : tie.Need-cast-tags-2
+cast-tags-2 c = search needs
+
+add-tags : tie.Need-add-tags
+add-tags c = search needs
+
+cast-fields : tie.Need-cast-fields
+cast-fields c = search needs
+
+mul-fields : tie.Need-mul-fields
+mul-fields c = search needs
+
+cast-fields-2 : tie.Need-cast-fields-2
+cast-fields-2 c = search needs
+
+add-fields : tie.Need-add-fields
+add-fields c = search needs
+
+mul-fields-2 : tie.Need-mul-fields-2
+mul-fields-2 c = search needs
+
+cast-fields-3 : tie.Need-cast-fields-3
+cast-fields-3 c = search needs
+
+add-fields-2 : tie.Need-add-fields-2
+add-fields-2 c = search needs
+
+mul-result : tie.Need-mul-result
+mul-result c = search needs
+
+add-result : tie.Need-add-result
+add-result c = search needs
+
+returns : tie.Need-returns
+unfolding rowMeant keyOf
+returns c = refl
+
+pub key-spec : {M : Type 1} → statement M
+key-spec =
+    tie.close
+    (tie.spec
+    cast-tags
+    mul-tags
+    cast-tags-2
+    add-tags
+    cast-fields
+    mul-fields
+    cast-fields-2
+    add-fields
+    mul-fields-2
+    cast-fields-3
+    add-fields-2
+    mul-result
+    add-result
+    returns)
