@@ -1,8 +1,6 @@
 -- A file that checks 1 and 2 let pass has its parts side by side from 36 on, and equal parts hold equally many records.
 -- Assumes nothing.
 use Prim.Native.Nat.{ℕ, zero, suc, _+_, _-_, _≤_, _<_}
-use mathlib.Core.Bool.{true≢false}
-use mathlib.Mathlib.Data.Bool.Basic.{eq-true-eq-not-eq-false}
 use mathlib.Core.Path.{_≡_, sym, ap, _∙_}
 use mathlib.Core.Logic.{⊎-elim}
 use mathlib.Core.List.{List}
@@ -10,30 +8,22 @@ use native.Mathlib.Nat.{eq-or-lt-of-le}
 use native.Mathlib.Numerals.{add-one}
 use native.Mathlib.Omega.{arith}
 use lib.ListN.{length}
-use lib.Dec.{eqb}
-use borrow.Author.Tests.{eqb-true, ne-eqb}
+use borrow.Author.Tests.{ne-eqb}
 use Rattle.case_file.specs.Parts.{Parted}
-use Rattle.case_file.proofs.Parting.{part-length}
-use Rattle.case_file.specs.Layout.{headerBytes, formula-part, log-part, offset, size, end, count, part, dueOffset, isMisplaced, faultyPart}
+use Rattle.case_file.proofs.Parting.{part-due, part-length}
+use Rattle.case_file.specs.Layout.{headerBytes, formula-part, log-part, offset, size, end, count, part, dueOffset}
 
 module _ (s : List ℕ) (f : Parted s) where
-  pub due : (p : ℕ) → p < 8 → offset s p ≡ dueOffset s p
-  unfolding faultyPart isMisplaced
-  due p h =
-      let o = offset s p in
-      let d = dueOffset s p in
-      eqb-true o d (eq-true-eq-not-eq-false (eqb o d) .0 (λ e. true≢false (rw e at (f .sound p h))))
-
   -- Each part but the first begins where the one before it ends.
   next : (p : ℕ) → p + 1 < 8 → offset s (p + 1) ≡ end s p
   unfolding dueOffset
   next p h =
       let back : p + 1 - 1 ≡ p = omega arith in
-      rw (ne-eqb (p + 1) 0 (omega arith), back) at (due (p + 1) h)
+      rw (ne-eqb (p + 1) 0 (omega arith), back) at (part-due s f (p + 1) h)
 
   pub log-start : (headerBytes ≤ offset s log-part) × (end s formula-part ≤ offset s log-part)
   unfolding dueOffset end
-  log-start = omega (arith, due 0 (omega arith), next 0 (omega arith))
+  log-start = omega (arith, part-due s f 0 (omega arith), next 0 (omega arith))
 
   pub behind-log : (p : ℕ) → p < 8 → 1 < p → end s log-part ≤ offset s p
   unfolding end

@@ -6,14 +6,13 @@ use mathlib.Core.List.{List}
 use native.Mathlib.Omega.{arith}
 use lib.ListN.{length}
 use lib.Dec.{ltb}
-use borrow.Author.Tests.{ltb-false, lt-ltb, le-ltb, eq-eqb}
-use Rattle.words.proofs.Tests.{or-false}
+use borrow.Author.Tests.{lt-ltb, le-ltb, eq-eqb}
 use Rattle.words.specs.Ranges.{lowest}
 use Rattle.words.specs.Checks.{Checked, accepts, refuses, _>>_, check, checkEach}
-use Rattle.words.proofs.Checks.{each-accepts, each-holds, check-holds, then-accepts, check-accepts, never-both}
+use Rattle.words.proofs.Checks.{each-accepts, each-holds, check-holds, then-assoc, then-accepts, check-accepts, never-both}
 use Rattle.formula_book.specs.Book.{rowBytes, bookRows, badFormula, repeatsLower}
 use Rattle.formula_book.specs.Admission.{admitted, bad-row, repeated-row, isMisshapen, firstBad, firstRepeat, bookAnswer}
-use Rattle.case_file.specs.Layout.{headerBytes, mostBytes, formula-part, log-part, condition-part, obligation-part, label-part, recordBytes, mostRecords, part, count, held, badLength, faultyPart}
+use Rattle.case_file.specs.Layout.{formula-part, log-part, condition-part, obligation-part, label-part, recordBytes, mostRecords, part, count, held, badLength, faultyPart}
 use Rattle.case_file.specs.Records.{formulas, badLogRow, badCondition, badObligation, badLabel, badAudit}
 use Rattle.case_file.specs.Parts.{Parted, Booked}
 use Rattle.case_file.specs.Admission.{admission}
@@ -75,75 +74,38 @@ module _ (s : List ℕ) (g : Parted s) where
   unfolding firstChecks _>>_
   answered-by-book = rw (check-holds 1 0 (g .long), each-holds 2 8 (faultyPart s) (g .sound)) book-run
 
--- A file that is long enough has a header.
-pub long-header : (s : List ℕ) → badLength s ≡ false → headerBytes ≤ length s
-unfolding badLength
-long-header s e = ltb-false (length s) headerBytes (or-false (ltb (length s) headerBytes) (ltb mostBytes (length s)) e .0)
+-- Checks 5 to 9, from each on.
+module _ (s : List ℕ) where
+  unfoldable pub from-9 : Checked (Unit {0})
+  from-9 = check 9 0 (badAudit s (formulas s))
 
--- Checks 5 to 9: at each, the lowest place where it fails and the number of places, as they were found.
-module _ (s : List ℕ) (k n : ℕ) (k-is : k ≡ firstBadRow s) (n-is : n ≡ count s log-part) where
-  pub refused-by-5 : k < n → refuses 5 k ≡ recordChecks s
-  unfolding recordChecks firstBadRow _>>_
-  refused-by-5 h = rw (each-fails 5 (count s log-part) k (badLogRow s (formulas s)) k-is (omega (arith, h, n-is)))
+  unfoldable pub from-8 : Checked (Unit {0})
+  from-8 = _>>_ (checkEach 8 (count s label-part) (badLabel s (formulas s))) from-9
 
-  pub seen-there : {old new : List ℕ} → SeenUpTo s k old new → SeenUpTo s (firstBadRow s) old new
-  seen-there h = rw (← k-is) h
+  unfoldable pub from-7 : Checked (Unit {0})
+  from-7 = _>>_ (checkEach 7 (count s obligation-part) (badObligation s (formulas s))) from-8
 
-  module _ (h : n ≤ k) where
-    passed-5 : checkEach 5 (count s log-part) (badLogRow s (formulas s)) ≡ accepts tt
-    unfolding firstBadRow
-    passed-5 = each-passes 5 (count s log-part) k (badLogRow s (formulas s)) k-is (omega (arith, h, n-is))
+  unfoldable pub from-6 : Checked (Unit {0})
+  from-6 = _>>_ (checkEach 6 (count s condition-part) (badCondition s (formulas s))) from-7
 
-    module _ (k6 n6 : ℕ) (k6-is : k6 ≡ lowest (badCondition s (formulas s)) (count s condition-part) 0) (n6-is : n6 ≡ count s condition-part) where
-      pub refused-by-6 : k6 < n6 → refuses 6 k6 ≡ recordChecks s
-      unfolding recordChecks _>>_
-      refused-by-6 q = rw (passed-5, each-fails 6 (count s condition-part) k6 (badCondition s (formulas s)) k6-is (omega (arith, q, n6-is)))
+-- A check at each place and those behind it, from the lowest place where it fails and the number of places, as they were found.
+module _ (n : ℕ) {count k places : ℕ} (fault : ℕ → Bool) (rest : Checked (Unit {0})) (k-is : k ≡ lowest fault count 0) (places-are : places ≡ count) where
+  pub stops : k < places → refuses n k ≡ _>>_ (checkEach n count fault) rest
+  unfolding _>>_
+  stops h = rw (each-fails n count k fault k-is (omega (arith, h, places-are)))
 
-      module _ (h6 : n6 ≤ k6) where
-        passed-6 : checkEach 6 (count s condition-part) (badCondition s (formulas s)) ≡ accepts tt
-        passed-6 = each-passes 6 (count s condition-part) k6 (badCondition s (formulas s)) k6-is (omega (arith, h6, n6-is))
+  pub goes-on : places ≤ k → rest ≡ _>>_ (checkEach n count fault) rest
+  unfolding _>>_
+  goes-on h = rw (each-passes n count k fault k-is (omega (arith, h, places-are)))
 
-        module _ (k7 n7 : ℕ) (k7-is : k7 ≡ lowest (badObligation s (formulas s)) (count s obligation-part) 0) (n7-is : n7 ≡ count s obligation-part) where
-          pub refused-by-7 : k7 < n7 → refuses 7 k7 ≡ recordChecks s
-          unfolding recordChecks _>>_
-          refused-by-7 q = rw (passed-5, passed-6, each-fails 7 (count s obligation-part) k7 (badObligation s (formulas s)) k7-is (omega (arith, q, n7-is)))
-
-          module _ (h7 : n7 ≤ k7) where
-            passed-7 : checkEach 7 (count s obligation-part) (badObligation s (formulas s)) ≡ accepts tt
-            passed-7 = each-passes 7 (count s obligation-part) k7 (badObligation s (formulas s)) k7-is (omega (arith, h7, n7-is))
-
-            module _ (k8 n8 : ℕ) (k8-is : k8 ≡ lowest (badLabel s (formulas s)) (count s label-part) 0) (n8-is : n8 ≡ count s label-part) where
-              pub refused-by-8 : k8 < n8 → refuses 8 k8 ≡ recordChecks s
-              unfolding recordChecks _>>_
-              refused-by-8 q = rw (passed-5, passed-6, passed-7, each-fails 8 (count s label-part) k8 (badLabel s (formulas s)) k8-is (omega (arith, q, n8-is)))
-
-              module _ (h8 : n8 ≤ k8) (b : Bool) (b-is : b ≡ badAudit s (formulas s)) where
-                passed-8 : checkEach 8 (count s label-part) (badLabel s (formulas s)) ≡ accepts tt
-                passed-8 = each-passes 8 (count s label-part) k8 (badLabel s (formulas s)) k8-is (omega (arith, h8, n8-is))
-
-                pub refused-by-9 : b ≡ true → refuses 9 0 ≡ recordChecks s
-                unfolding recordChecks check _>>_
-                refused-by-9 e = rw (passed-5, passed-6, passed-7, passed-8, ← b-is, e)
-
-                pub passed-9 : b ≡ false → accepts tt ≡ recordChecks s
-                unfolding recordChecks check _>>_
-                passed-9 e = rw (passed-5, passed-6, passed-7, passed-8, ← b-is, e)
+-- The table was filled up to the first bad row, as it was found.
+pub seen-there : (s : List ℕ) {k : ℕ} {old new : List ℕ} → (k ≡ firstBadRow s) × SeenUpTo s k old new → SeenUpTo s (firstBadRow s) old new
+seen-there s h = rw (← (h .0)) (h .1)
 
 -- The two halves together.
-halves : (a b c d e : Checked (Unit {0})) → _>>_ a (_>>_ b (_>>_ c (_>>_ d e))) ≡ _>>_ (_>>_ a (_>>_ b (_>>_ c d))) e
-unfolding _>>_
-halves (refuses n p) b c d e = refl
-halves (accepts x) (refuses n p) c d e = refl
-halves (accepts x) (accepts y) (refuses n p) d e = refl
-halves (accepts x) (accepts y) (accepts z) d e = refl
-
 in-halves : (s : List ℕ) → admission s ≡ _>>_ (firstChecks s) (recordChecks s)
 unfolding admission firstChecks recordChecks
-in-halves s =
-    halves (check 1 0 (badLength s)) (checkEach 2 8 (faultyPart s))
-    (checkEach 3 (count s formula-part) (badFormula (part s formula-part) (formulas s)))
-    (checkEach 4 (count s formula-part) (repeatsLower (part s formula-part)))
-    (recordChecks s)
+in-halves s = rw (then-assoc, then-assoc, then-assoc)
 
 -- A file that checks 1 to 4 refuse.
 module _ (s : List ℕ) (n p : ℕ) (is : refuses n p ≡ firstChecks s) where

@@ -1,4 +1,4 @@
--- What callers of this library may cite, and they cite this file alone: what an admitted file has, and that the table says what the agent sees of each row. Assumes nothing.
+-- What callers of this library may cite, and they cite this file alone: what an admitted file has, when spans adjoin, what files that are alike to the agent share, the struck file among them, and that the table says what the agent sees of each row. Assumes nothing.
 use Prim.Native.Nat.{ℕ, _<_}
 use mathlib.Core.Path.{_≡_, refl, ap, _∙_}
 use mathlib.Core.List.{List}
@@ -18,6 +18,9 @@ use Rattle.case_file.proofs.Seeing.{code-view}
 pub use Rattle.case_file.proofs.Admitting.{admitted-condition, admitted-obligation, admitted-label, admitted-audit}
 pub use Rattle.case_file.proofs.Named.{obligation-named, label-named, condition-named, audit-named, shown-named}
 pub use Rattle.case_file.proofs.Parting.{header-inside, part-inside, part-few, part-whole, part-length, held-count}
+pub use Rattle.case_file.proofs.Spans.{span-holds, spans-adjoin, adjoin-spans}
+pub use Rattle.case_file.proofs.Same.{Same, same}
+pub use Rattle.case_file.proofs.Struck.{parted-struck, alike-struck, rows-stay-good}
 
 module _ (s : List ℕ) (is : admission s ≡ accepts tt) where
   pub admitted-parted : Parted s

@@ -1,11 +1,12 @@
--- What a number names in an admitted book of n rows: by the kind of its row, and nothing beyond the book. Assumes nothing.
+-- Whether a number names a formula of some kind that also passes a test. Beyond an admitted book it names none; else the row tells the kind, and the test is left. Assumes nothing.
 use Prim.Native.Nat.{ℕ, _+_, _*_, _≤_, _<_}
-use mathlib.Core.Path.{_≡_, sym, ap, _∙_}
-use mathlib.Core.Bool.{false}
+use mathlib.Core.Path.{_≡_, refl, sym, ap, _∙_}
+use mathlib.Core.Bool.{Bool, false, true, _&&_}
 use mathlib.Core.List.{List}
 use lib.ListN.{length}
 use lib.Dec.{eqb, ltb, leb}
-use Rattle.formula_book.specs.Formulas.{isPolicy, isAction, isPredicate}
+use Rattle.words.proofs.Tests.{both-first, both-second}
+use Rattle.formula_book.specs.Formulas.{Formula, no-formula, isPolicy, isAction, isPredicate}
 use Rattle.formula_book.specs.Book.{Row, rowAt, treeIn, book}
 use Rattle.formula_book.specs.Nodes.{GoodRow}
 use Rattle.formula_book.specs.Admission.{admitted, bookAnswer}
@@ -13,36 +14,45 @@ use Rattle.formula_book.specs.Meanings.{rowMeant}
 use Rattle.formula_book.specs.declared.rows.Row as rows
 use Rattle.formula_book.proofs.Laws.{admitted-row, row-policy, row-action, row-predicate, beyond, good-inside}
 
-module _ (s : List ℕ) (n k : ℕ) (is : bookAnswer s ≡ admitted n) where
-  pub no-policy : n ≤ k → isPolicy (treeIn (book s) k) ≡ false
-  unfolding isPolicy
-  no-policy le = rw (beyond s n k is le)
+-- A class of formulas that a test of the row's kind tells; `no-formula` is not in it.
+pub record Kind (test : ℕ → Bool) (is : Formula → Bool) : Type 0 where
+  none : is no-formula ≡ false
+  told : (s : List ℕ) (k : ℕ) → GoodRow s k → is (treeIn (book s) k) ≡ test (rowAt s k .kind)
 
-  pub no-action : n ≤ k → isAction (treeIn (book s) k) ≡ false
-  unfolding isAction
-  no-action le = rw (beyond s n k is le)
+pub policies : Kind (λ n. ltb n 8) isPolicy
+unfolding isPolicy
+policies = record { none = refl; told = row-policy }
 
-  pub no-predicate : n ≤ k → isPredicate (treeIn (book s) k) ≡ false
-  unfolding isPredicate
-  no-predicate le = rw (beyond s n k is le)
+pub actions : Kind (λ n. leb 8 n) isAction
+unfolding isAction
+actions = record { none = refl; told = row-action }
 
+pub predicates : Kind (λ n. eqb n 0) isPredicate
+unfolding isPredicate
+predicates = record { none = refl; told = row-predicate }
+
+-- Number k, in an admitted book of n rows.
+module _ (s : List ℕ) (n k : ℕ) (passes : bookAnswer s ≡ admitted n) where
   -- The row of a number below n may be read, and asked about.
   pub row-good : k < n → GoodRow s k
-  row-good lt = admitted-row s n is k lt
+  row-good lt = admitted-row s n passes k lt
 
   pub row-inside : k < n → 8 * k + 8 ≤ length s
   row-inside lt = good-inside (row-good lt)
 
-  -- The row as it was read.
-  module _ (lt : k < n) (r : rows.Row) (e : rowMeant r ≡ rowAt s k) where
-    pub policy-kind : ltb (r .kind) 8 ≡ isPolicy (treeIn (book s) k)
-    unfolding rowMeant
-    policy-kind = ap (λ (q : Row). ltb (q .kind) 8) e ∙ sym (row-policy s k (row-good lt))
+  module _ {test : ℕ → Bool} {is : Formula → Bool} (kind : Kind test is) where
+    -- The three answers. `also` is the further test.
+    pub not-beyond : (also : Bool) → n ≤ k → false ≡ is (treeIn (book s) k) && also
+    not-beyond also le = both-first also (sym (ap is (beyond s n k passes le) ∙ kind .none)) refl
 
-    pub action-kind : leb 8 (r .kind) ≡ isAction (treeIn (book s) k)
-    unfolding rowMeant
-    action-kind = ap (λ (q : Row). leb 8 (q .kind)) e ∙ sym (row-action s k (row-good lt))
+    -- The row as it was read.
+    module _ (lt : k < n) (r : rows.Row) (e : rowMeant r ≡ rowAt s k) where
+      kind-is : test (r .kind) ≡ is (treeIn (book s) k)
+      unfolding rowMeant
+      kind-is = ap (λ (q : Row). test (q .kind)) e ∙ sym (kind .told s k (row-good lt))
 
-    pub predicate-kind : eqb (r .kind) 0 ≡ isPredicate (treeIn (book s) k)
-    unfolding rowMeant
-    predicate-kind = ap (λ (q : Row). eqb (q .kind) 0) e ∙ sym (row-predicate s k (row-good lt))
+      pub not-other : (also : Bool) → test (r .kind) ≡ false → false ≡ is (treeIn (book s) k) && also
+      not-other also = both-first also kind-is
+
+      pub by-test : {q also : Bool} → test (r .kind) ≡ true → q ≡ also → q ≡ is (treeIn (book s) k) && also
+      by-test = both-second kind-is

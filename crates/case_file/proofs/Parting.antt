@@ -1,7 +1,7 @@
 -- A file that checks 1 and 2 let pass has its parts where the header says, whole. Assumes nothing.
 use Prim.Native.Nat.{ℕ, zero, suc, _+_, _*_, _-_, _/_, _%_, _≤_, _<_}
 use mathlib.Core.Path.{_≡_, sym, ap}
-use mathlib.Core.Bool.{true, false, not, _&&_, _||_, or-false as or-none}
+use mathlib.Core.Bool.{true, false, not, _&&_, or-false as or-none}
 use mathlib.Core.List.{List}
 use native.Mathlib.Nat.{mul-le-mul-left, mul-div-le, mul-suc}
 use native.Mathlib.Omega.{arith}
@@ -81,41 +81,44 @@ module _ (s : List ℕ) (p : ℕ) (e : isMisplaced s p ≡ false) where
   unfolding faultyPart
   never-faulty h k = rw (e, ne-eqb p 7 h, ne-eqb p 2 k)
 
+-- A file that check 1 lets pass has a header, and not too many bytes.
+pub long-header : (s : List ℕ) → badLength s ≡ false → (headerBytes ≤ length s) × (length s ≤ mostBytes)
+unfolding badLength
+long-header s e =
+    let h = or-false (ltb (length s) headerBytes) (ltb mostBytes (length s)) e in
+    (ltb-false (length s) headerBytes (h .0), ltb-false mostBytes (length s) (h .1))
+
 module _ (s : List ℕ) (g : Parted s) where
   pub header-inside : headerBytes ≤ length s
-  unfolding badLength
-  header-inside = ltb-false (length s) headerBytes (or-false (ltb (length s) headerBytes) (ltb mostBytes (length s)) (g .long) .0)
-
-  file-few : length s ≤ mostBytes
-  unfolding badLength
-  file-few = ltb-false mostBytes (length s) (or-false (ltb (length s) headerBytes) (ltb mostBytes (length s)) (g .long) .1)
+  header-inside = long-header s (g .long) .0
 
   module _ (p : ℕ) (known : p < 8) where
-    placed : isMisplaced s p ≡ false
-    unfolding faultyPart
+    -- The four tests of `isMisplaced`, passed.
+    placed : (offset s p ≡ dueOffset s p) × (size s p % recordBytes p ≡ 0) × (count s p ≤ mostRecords p) × (end s p ≤ length s)
+    unfolding faultyPart isMisplaced
     placed =
-        or-false (isMisplaced s p) (eqb p premise-part && ltb (end s p) (length s))
-        (or-false (isMisplaced s p || (eqb p premise-part && ltb (end s p) (length s))) (eqb p observer-part && orphans s log-part observer-part)
-        (or-false (isMisplaced s p || (eqb p premise-part && ltb (end s p) (length s)) || (eqb p observer-part && orphans s log-part observer-part)) (eqb p premise-part && orphans s step-part premise-part) (g .sound p known) .0) .0) .0
+        let misplaced = or-false _ (eqb p premise-part && ltb (end s p) (length s)) (or-false _ (eqb p observer-part && orphans s log-part observer-part) (or-false _ (eqb p premise-part && orphans s step-part premise-part) (g .sound p known) .0) .0) .0 in
+        let inside = or-false _ (ltb (length s) (end s p)) misplaced in
+        let few = or-false _ (ltb (mostRecords p) (count s p)) (inside .0) in
+        let due = or-false (not (eqb (offset s p) (dueOffset s p))) (not (eqb (size s p % recordBytes p) 0)) (few .0) in (
+          eqb-true _ _ (not-false _ (due .0)),
+          eqb-true _ _ (not-false _ (due .1)),
+          ltb-false _ _ (few .1),
+          ltb-false _ _ (inside .1),
+        )
 
-    within : (not (eqb (offset s p) (dueOffset s p)) || not (eqb (size s p % recordBytes p) 0) || ltb (mostRecords p) (count s p) ≡ false) × (ltb (length s) (end s p) ≡ false)
-    unfolding isMisplaced
-    within = or-false (not (eqb (offset s p) (dueOffset s p)) || not (eqb (size s p % recordBytes p) 0) || ltb (mostRecords p) (count s p)) (ltb (length s) (end s p)) placed
+    pub part-due : offset s p ≡ dueOffset s p
+    part-due = placed .0
+
+    pub part-whole : size s p % recordBytes p ≡ 0
+    part-whole = placed .1
+
+    pub part-few : count s p ≤ mostRecords p
+    part-few = placed .2
 
     pub part-inside : offset s p + size s p ≤ length s
     unfolding end
-    part-inside = ltb-false (length s) (end s p) (within .1)
-
-    pub part-few : count s p ≤ mostRecords p
-    part-few =
-        ltb-false (mostRecords p) (count s p) (or-false (not (eqb (offset s p) (dueOffset s p)) || not (eqb (size s p % recordBytes p) 0)) (ltb (mostRecords p) (count s p)) (within .0) .1)
-
-    pub part-whole : size s p % recordBytes p ≡ 0
-    part-whole =
-        eqb-true (size s p % recordBytes p) 0
-        (not-false (eqb (size s p % recordBytes p) 0)
-        (or-false (not (eqb (offset s p) (dueOffset s p))) (not (eqb (size s p % recordBytes p) 0))
-        (or-false (not (eqb (offset s p) (dueOffset s p)) || not (eqb (size s p % recordBytes p) 0)) (ltb (mostRecords p) (count s p)) (within .0) .0) .1))
+    part-inside = placed .3
 
     pub counted : (n r : ℕ) → n ≡ size s p → r ≡ recordBytes p → (n / r ≡ count s p) × (n / r ≤ mostRecords p)
     unfolding count
@@ -141,7 +144,7 @@ module _ (s : List ℕ) (g : Parted s) where
       field-inside = omega (arith, field-in, part-inside)
 
       pub field-near : (o r : ℕ) → o ≡ offset s p → r ≡ recordBytes p → (o + r * k + i + 2 ≤ length s) × (o + r * k + i + 2 ≤ mostBytes)
-      field-near o r e f = rw (e, f) (field-inside, omega (arith, field-inside, file-few))
+      field-near o r e f = rw (e, f) (field-inside, omega (arith, field-inside, long-header s (g .long) .1))
 
       pub field-at : word s (offset s p + recordBytes p * k + i) ≡ field s p k i
       unfolding field part word

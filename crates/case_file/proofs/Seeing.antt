@@ -1,7 +1,7 @@
 -- The log rows of a file that checks 1 to 4 let pass: what a row comes to, and the table of what the agent sees. Assumes nothing.
-use Prim.Native.Nat.{ℕ, zero, suc, _+_, _-_, _≤_, _<_}
+use Prim.Native.Nat.{ℕ, zero, suc, _+_, _≤_, _<_}
 use mathlib.Core.Path.{_≡_, refl, sym, ap, _∙_}
-use mathlib.Core.Bool.{Bool, true, false, cond, not, _&&_, _||_, or-true, false≢true, true≢false}
+use mathlib.Core.Bool.{Bool, true, false, cond, _&&_, _||_, or-true, false≢true, true≢false}
 use mathlib.Core.Logic.{_⊎_, ⊎-elim}
 use mathlib.Core.List.{List}
 use native.Mathlib.Nat.{eq-or-lt-of-le, le-of-suc-le-suc}
@@ -10,7 +10,7 @@ use native.Mathlib.Omega.{arith}
 use lib.ListN.{length, set, length-set}
 use lib.Seq.{getD-set-same, getD-set-other}
 use lib.Dec.{eqb, ltb}
-use borrow.Author.Tests.{ltb-false, lt-ltb, eqb-true, ne-eqb, not-false}
+use borrow.Author.Tests.{lt-ltb, eqb-true, ne-eqb, not-false}
 use Rattle.words.specs.Words.{absent}
 use Rattle.words.specs.Ranges.{any}
 use Rattle.words.proofs.Tests.{or-false, or-true as either}
@@ -18,11 +18,12 @@ use Rattle.formula_book.specs.Formulas.{no-formula, isAction}
 use Rattle.formula_book.specs.Book.{treeIn, book}
 use Rattle.formula_book.proofs.Laws.{admitted-few, beyond}
 use Rattle.case_file.specs.Layout.{log-part, observer-part, count, held, mostRecords, agentOf}
-use Rattle.case_file.specs.Records.{formulas, rowAction, rowFrom, rowCount, observer, spanDue, spanFault, badSpan, isGroundAction, badObserver, badAction, badLogRow}
+use Rattle.case_file.specs.Records.{formulas, rowAction, rowFrom, rowCount, observer, badSpan, isGroundAction, badObserver, badAction, badLogRow}
 use Rattle.case_file.specs.Views.{isSeen, viewOf, rowView}
 use Rattle.case_file.specs.Parts.{Parted, Booked}
 use Rattle.case_file.specs.Seen.{hiddenCode, viewCode, codeView, SeenUpTo, ListAnswer, faulty, unseen, seen, listAnswer, RowAnswer, bad, good, rowAnswer}
 use Rattle.case_file.proofs.Parting.{part-few, held-count}
+use Rattle.case_file.proofs.Spans.{span-holds}
 
 pub observers-few : (s : List ℕ) → Parted s → count s observer-part ≤ 4096
 unfolding mostRecords
@@ -38,12 +39,6 @@ unfolding any
 any-agrees p q zero i h = refl
 any-agrees p q (suc left) i h =
     rw (h i (omega arith) (omega arith), any-agrees p q left (i + 1) (λ j from to. h j (omega arith) (omega arith)))
-
--- A span that is no fault lies within the entries.
-pub span-within : (due from len : ℕ) (last : Bool) (m : ℕ) → spanFault due from len last m ≡ false → from + len ≤ m
-unfolding spanFault
-span-within due from len last m e =
-    ltb-false m (from + len) (or-false (not (eqb from due)) (ltb m (from + len)) (or-false _ (last && ltb (from + len) m) e .0) .1)
 
 -- The trees of the file's formulas are those of its book.
 pub booked-trees : (s b : List ℕ) (n : ℕ) → Booked s b n → book b ≡ formulas s
@@ -61,22 +56,25 @@ listed seen a e = good a e
 
 -- Row k of a file.
 module _ (s : List ℕ) (k : ℕ) where
-  rowSpan : Bool
-  rowSpan = spanFault (spanDue (rowFrom s) (rowCount s) k) (rowFrom s k) (rowCount s k) (eqb (k + 1) (count s log-part)) (count s observer-part)
+  abbrev pub rowSpan : Bool
+  rowSpan = badSpan (rowFrom s) (rowCount s) (count s log-part) (count s observer-part) k
+
+  pub span-within : rowSpan ≡ false → rowFrom s k + rowCount s k ≤ count s observer-part
+  span-within e = span-holds (rowFrom s) (rowCount s) (count s log-part) (count s observer-part) k e .within
 
   rowList : Bool
   rowList = any (badObserver s (rowFrom s k)) (rowCount s k) (rowFrom s k)
 
   bad-row-is : badLogRow s (formulas s) k ≡ badAction (formulas s) (rowAction s k) || rowSpan || rowList
-  unfolding badLogRow badSpan rowSpan rowList
+  unfolding badLogRow rowList
   bad-row-is = refl
 
   pub action-bad : badAction (formulas s) (rowAction s k) ≡ true → bad ≡ rowAnswer s k
   unfolding rowAnswer
   action-bad e = rw (bad-row-is, e)
 
-  pub span-bad : spanFault (spanDue (rowFrom s) (rowCount s) k) (rowFrom s k) (rowCount s k) (eqb (k + 1) (count s log-part)) (count s observer-part) ≡ true → bad ≡ rowAnswer s k
-  unfolding rowAnswer rowSpan
+  pub span-bad : rowSpan ≡ true → bad ≡ rowAnswer s k
+  unfolding rowAnswer
   span-bad e = rw (bad-row-is, e, or-true)
 
   -- the agent sees the row if it is among the observers of its span
@@ -89,13 +87,11 @@ module _ (s : List ℕ) (k : ℕ) where
   -- a row whose action and span are no fault, by the answer of its list
   pub row-listed :
       (action from len agent : ℕ) → action ≡ rowAction s k → from ≡ rowFrom s k → len ≡ rowCount s k → agent ≡ agentOf s → Parted s →
-      badAction (formulas s) (rowAction s k) ≡ false →
-      spanFault (spanDue (rowFrom s) (rowCount s) k) (rowFrom s k) (rowCount s k) (eqb (k + 1) (count s log-part)) (count s observer-part) ≡ false →
+      badAction (formulas s) (rowAction s k) ≡ false → rowSpan ≡ false →
       (a : ListAnswer) → a ≡ listAnswer s agent from len → listed a action (from + len) ≡ rowAnswer s k
-  unfolding rowAnswer rowSpan rowList listAnswer viewCode listed
+  unfolding rowAnswer rowList listAnswer viewCode listed
   row-listed action from len agent act-is from-is len-is agent-is p act-good span-good a is =
-      let within = span-within (spanDue (rowFrom s) (rowCount s) k) (rowFrom s k) (rowCount s k) (eqb (k + 1) (count s log-part)) (count s observer-part) span-good in
-      rw (is, act-is, from-is, len-is, agent-is, bad-row-is, act-good, span-good, seen-is p within)
+      rw (is, act-is, from-is, len-is, agent-is, bad-row-is, act-good, span-good, seen-is p (span-within span-good))
       (go (any (badObserver s (rowFrom s k)) (rowCount s k) (rowFrom s k)) (any (λ j. eqb (observer s j) (agentOf s)) (rowCount s k) (rowFrom s k)))
     where
       go :

@@ -16,12 +16,13 @@ use Rattle.formula_book.specs.Book.{Row, rowBytes, rowAt, bookRows, tree
 use Rattle.formula_book.specs.Nodes.{GoodRow}
 use Rattle.formula_book.specs.Admission.{BookAnswer, admitted, misshapen, bad-row, repeated-row, isMisshapen, firstBad, firstRepeat, bookAnswer}
 use Rattle.formula_book.proofs.Instancing.{shape-tree}
-use Rattle.formula_book.proofs.OneNumber.{Has, fields, one-number}
+use Rattle.formula_book.proofs.OneNumber.{Has, fields}
 use Rattle.formula_book.proofs.Trees.{trees-length, row-shape, row-small}
 use Rattle.formula_book.proofs.Fielding.{shape-policy, shape-action, shape-predicate}
 use Rattle.formula_book.proofs.Comparing.{same-as-row}
 pub use Rattle.formula_book.proofs.Trees.{Shape}
 unfoldable pub use Rattle.formula_book.proofs.OneNumber.{fieldsOf}
+pub use Rattle.formula_book.proofs.OneNumber.{one-number}
 pub use Rattle.formula_book.proofs.Comparing.{Proper, other-kind, predicate-proper, owns-proper, says-proper, and-proper, implies-proper, each-use-proper, once-proper, says-kind, and-kind, for-all-kind, implies-kind, communicates-kind, creates-kind, user-action-kind, body-policy, put-policy}
 pub use Rattle.formula_book.proofs.Same.{same-is, same-true, same-of, same-refl, same-false}
 pub use Rattle.formula_book.proofs.Occurrences.{has-true, mentions-is, mentions-not, closed-is, data-variable-is, policy-is, parameter-is, instance-is}

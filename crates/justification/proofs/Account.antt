@@ -143,7 +143,7 @@ passes-exactly s room enough = (
   λ p.
       let r = reported (finding s (length room)) room (p .0) (p .1) (p .2) in
       let w = finding-passed s (length room) (r .0) (r .1) (r .2) .0 in
-      (w .admitted, w .owed-is, conclusions.owes _ _ _ (w .owed), proves-account (caseOf s) (w .owed-is) (length room) (w .proves)),
+      (w .admitted, w .owed-is, conclusions.drawn _ _ _ .1 (w .owed), proves-account (caseOf s) (w .owed-is) (length room) (w .proves)),
   λ j.
       let w : Passed s (length room) =
       record {

@@ -13,25 +13,20 @@ use Rattle.formula_book.specs.Book.{treeIn, book as trees}
 use Rattle.formula_book.proofs.Laws.{admitted-few}
 use Rattle.case_file.specs.Layout.{formula-part, condition-part, obligation-part, label-part, count}
 use Rattle.case_file.specs.Records.{formulas, conditionFormula, obligationMark, obligationAction, labelMark, labelFormula, isDuty}
-use Rattle.case_file.specs.Parts.{Parted}
 use Rattle.case_file.specs.Case.{reading, caseOf}
-use Rattle.case_file.proofs.Laws.{admitted-parted, admitted-booked, label-named, obligation-named, condition-named}
+use Rattle.case_file.proofs.Laws.{label-named, obligation-named, condition-named}
 use Rattle.justification.specs.Rules.{first, isThat, suppose, conditionRow, impliesIntro, dutyIntro, dutyByObligation, dutyByLabel}
-use Rattle.justification.specs.Turns.{Numbered}
-use Rattle.justification.specs.Fitting.{Lent}
+use Rattle.justification.specs.Turns.{Lent, Numbered}
+use Rattle.justification.proofs.Lent.{booked, lent-trees}
 use Rattle.justification.proofs.Comparing.{same-number}
 
 module _ {s b : List ℕ} (lent : Lent s b) where
-  pub parted : Parted s
-  parted = admitted-parted s (lent .admitted)
-
   pub numbered : {k : ℕ} → k < count s formula-part → Numbered b k
-  numbered lt = record { rows = count s formula-part; admitted = rw (lent .book) (admitted-booked s (lent .admitted) .passes); below = lt }
+  numbered lt = record { rows = count s formula-part; admitted = booked lent .passes; below = lt }
 
   -- A number names the same tree in the book as in the file.
   pub named : {n m : ℕ} → n ≡ m → treeIn (trees b) n ≡ treeIn (formulas s) m
-  unfolding formulas
-  named e = cc (lent .book, e)
+  named e = cc (lent-trees lent, e)
 
   pub label-numbered : {k n : ℕ} → k < count s label-part → n ≡ labelFormula s k → Numbered b n
   label-numbered {k} inside is = rw is (numbered (label-named s (lent .admitted) k inside))

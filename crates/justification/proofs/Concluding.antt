@@ -1,7 +1,7 @@
 -- What follows the admission, by where the code stops: the verdict and the room are those that the definition reports. Assumes nothing.
-use Prim.Native.Nat.{ℕ, _+_, _-_, _≤_, _<_}
-use mathlib.Core.Path.{_≡_, refl, sym, ap, _∙_}
-use mathlib.Core.Bool.{Bool, true, false, not}
+use Prim.Native.Nat.{ℕ, _+_, _≤_, _<_}
+use mathlib.Core.Path.{_≡_, ap, _∙_}
+use mathlib.Core.Bool.{true, false}
 use mathlib.Core.Option.{none, some}
 use mathlib.Core.List.{List, _++_}
 use native.Mathlib.Omega.{arith}
@@ -20,7 +20,7 @@ use Rattle.case_file.proofs.Laws.{table-view, all-rows-entered}
 use Rattle.justification.specs.Steps.{State, startState, runFrom}
 use Rattle.justification.specs.Outcome as definition
 use Rattle.justification.specs.Outcome.{Finding, owes, isOwed, hasSteps, noProof, needlessProof, lastStep, unusedStep, openLabel, wrongEnd, needed, shortRoom, dischargedList, citedList, proof, ending, finding, report, outcome}
-use Rattle.justification.specs.Turns.{CaseLent, EarlierNumbered}
+use Rattle.justification.specs.Turns.{Lent, CaseLent, EarlierNumbered}
 use Rattle.justification.specs.Meanings.{verdictMeant}
 use Rattle.justification.specs.Ends.{listing, concluded, justifying, Reported, Answered, AdmissionAnswered}
 use Rattle.justification.specs.declared.verdict.Verdict.{Verdict}
@@ -28,7 +28,7 @@ use Rattle.justification.specs.declared.verdict.Verdict.the-variants.{Pa
 use Rattle.justification.proofs.Order.{admission-first}
 use Rattle.justification.proofs.States.{stateAt, run-fine}
 use Rattle.justification.proofs.Hidden.{unseen-rows-are-unseen, as-if-struck, alike-admission, struck-admission}
-use Rattle.justification.proofs.Running.{numbered}
+use Rattle.justification.proofs.Standing.{formula-inside}
 
 -- A refusal is reported with its number and place, and keeps the room.
 pub refusal-reported : (x : Checked Finding) (room : List ℕ) (n p : ℕ) → x ≡ refuses n p → Reported x room (Refused n p) room
@@ -83,9 +83,9 @@ unfolding proof concluded listing _>>=_
 proof-run c room s e = rw e
 
 -- Where all steps have passed, each has a formula of the book.
-pub all-numbered : (s b v : List ℕ) (t : State) → CaseLent s b v → runFrom (caseOf s) (caseOf s .steps) 0 startState ≡ accepts t → EarlierNumbered s (count s step-part)
+pub all-numbered : {s b : List ℕ} {t : State} → Lent s b → runFrom (caseOf s) (caseOf s .steps) 0 startState ≡ accepts t → EarlierNumbered s (count s step-part)
 unfolding stateAt caseOf
-all-numbered s b v t lent e j lt = numbered s b v j lent (run-fine (caseOf s) (caseOf s .steps) 0 t e .1 j (omega arith) (omega arith) .shape)
+all-numbered {s} {b} {t} lent e j lt = formula-inside j lent (run-fine (caseOf s) (caseOf s .steps) 0 t e .1 j (omega arith) (omega arith) .shape)
 
 -- Checks 10 and 11.
 module _ (c : Case) (room : List ℕ) where
@@ -149,7 +149,7 @@ pub case-lent :
     (s b old v : List ℕ) → admission s ≡ accepts tt → b ≡ part s formula-part → length old ≡ 1024 → SeenUpTo s (rowsEntered s) old v → CaseLent s b v
 case-lent s b old v is e long seen =
     let all = rw (all-rows-entered s is) at seen in
-    record { admitted = is; book = e; long = seen .long ∙ long; views = table-view s is old v all }
+    record { lent = record { admitted = is; book = e }; long = seen .long ∙ long; views = table-view s is old v all }
 
 pub admission-answered : {A : Type 0} (meant : Checked (Unit {0}) → A) (s : List ℕ) (a : A) → a ≡ meant (admission s) → AdmissionAnswered meant s a
 admission-answered meant s a e =

@@ -22,38 +22,29 @@ given x agent g f e = go (eqb x agent) refl
     go true q = let gives : some g ≡ some f = rw q at e in (eqb-true x agent q, cc)
     go false q = absurd (none-some (rw q at e))
 
-pub concludes : (agent : ℕ) (g f : Formula) → conclusion agent g ≡ some f → Concludes agent g f
-unfolding conclusion
-concludes agent (communicates x h z) f e = let q = given z agent (says x h z) f e in rw (q .1, q .0) told
-concludes agent (creates x y) f e = let q = given x agent (owns x y) f e in rw (q .1, q .0) made
-concludes agent (user-action c x y z) f e = absurd (none-some e)
-concludes agent (predicate c x y z) f e = absurd (none-some e)
-concludes agent (owns x y) f e = absurd (none-some e)
-concludes agent (says x h z) f e = absurd (none-some e)
-concludes agent (and h g) f e = absurd (none-some e)
-concludes agent (for-all σ h) f e = absurd (none-some e)
-concludes agent (implies h g) f e = absurd (none-some e)
-concludes agent (after m a h) f e = absurd (none-some e)
-concludes agent no-formula f e = absurd (none-some e)
+neither : {f : Formula} {A B : Type 0} → (none ≡ some f → A) × (none ≡ some f → B)
+neither = ((λ e. absurd (none-some e)), (λ e. absurd (none-some e)))
+
+-- By the kinds of the action.
+pub drawn : (agent : ℕ) (g f : Formula) → (conclusion agent g ≡ some f → Concludes agent g f) × (owed agent g ≡ some f → Owes agent g f)
+unfolding conclusion owed
+drawn agent (communicates x h z) f =
+    ((λ e. let q = given z agent (says x h z) f e in rw (q .1, q .0) told), (λ e. let q = given x agent (says x h z) f e in rw (q .1, q .0) telling))
+drawn agent (creates x y) f = ((λ e. let q = given x agent (owns x y) f e in rw (q .1, q .0) made), (λ e. absurd (none-some e)))
+drawn agent (user-action c x y z) f = ((λ e. absurd (none-some e)), (λ e. let q = given x agent (predicate c x y z) f e in rw (q .1, q .0) acting))
+drawn agent (predicate c x y z) f = neither
+drawn agent (owns x y) f = neither
+drawn agent (says x h z) f = neither
+drawn agent (and h g) f = neither
+drawn agent (for-all σ h) f = neither
+drawn agent (implies h g) f = neither
+drawn agent (after m a h) f = neither
+drawn agent no-formula f = neither
 
 pub concluded : {agent : ℕ} {g f : Formula} → Concludes agent g f → conclusion agent g ≡ some f
 unfolding conclusion
 concluded {agent} told = rw (eq-eqb agent agent refl)
 concluded {agent} made = rw (eq-eqb agent agent refl)
-
-pub owes : (agent : ℕ) (g f : Formula) → owed agent g ≡ some f → Owes agent g f
-unfolding owed
-owes agent (communicates x h z) f e = let q = given x agent (says x h z) f e in rw (q .1, q .0) telling
-owes agent (user-action c x y z) f e = let q = given x agent (predicate c x y z) f e in rw (q .1, q .0) acting
-owes agent (creates x y) f e = absurd (none-some e)
-owes agent (predicate c x y z) f e = absurd (none-some e)
-owes agent (owns x y) f e = absurd (none-some e)
-owes agent (says x h z) f e = absurd (none-some e)
-owes agent (and h g) f e = absurd (none-some e)
-owes agent (for-all σ h) f e = absurd (none-some e)
-owes agent (implies h g) f e = absurd (none-some e)
-owes agent (after m a h) f e = absurd (none-some e)
-owes agent no-formula f e = absurd (none-some e)
 
 pub owing : {agent : ℕ} {g f : Formula} → Owes agent g f → owed agent g ≡ some f
 unfolding owed

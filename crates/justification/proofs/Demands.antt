@@ -1,5 +1,5 @@
 -- The three demands, proved of the definition. Each is stated in specs/Demands. Assumes nothing.
-use Rattle.formula_book.proofs.OneNumber.{one-number}
+use Rattle.formula_book.proofs.Laws.{one-number}
 use Rattle.justification.specs.Demands.{RefusalKeepsRoom, NoneOwedKeepsRoom, PassKeepsRest, RefusalInTable, PassesExactly, PassLists, EachUseOnce, UnseenRowsAreUnseen, AsIfStruck, OneMeaningOneNumber}
 use Rattle.justification.proofs.Room as room
 use Rattle.justification.proofs.Table as table

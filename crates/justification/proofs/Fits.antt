@@ -16,10 +16,8 @@ use Rattle.words.proofs.Tests.{and-true, and-intro, or-true, or-false, not-both
 use Rattle.words.proofs.Ranges.{any-false, any-none, each-at}
 use Rattle.formula_book.specs.Terms.{Class, absent-term, classOf}
 use Rattle.formula_book.specs.Formulas.{Formula, owns, says, for-all, implies, after, each-use, once, same, this-term, has, dataOf, firstPart, secondPart, source, target, sortOf}
-use Rattle.formula_book.proofs.Data.{data-ascend, data-among}
-use Rattle.formula_book.proofs.Same.{same-true, same-of, same-refl}
 use Rattle.formula_book.specs.Occurrences.{Mentions, MentionsDataVariable}
-use Rattle.formula_book.proofs.Occurrences.{mentions-is, mentions-not, data-variable-is, parameter-is, instance-is}
+use Rattle.formula_book.proofs.Laws.{same-true, same-of, same-refl, mentions-is, mentions-not, data-variable-is, parameter-is, instance-is, data-ascend, data-among}
 use Rattle.case_file.specs.Records.{isDuty}
 use Rattle.case_file.specs.Views.{RowView, hidden, struck, shows}
 use Rattle.case_file.specs.Case.{Case}
@@ -27,7 +25,7 @@ use Rattle.justification.specs.Rules.{first, second, isThat, sameAll, co
 use Rattle.justification.specs.Steps.{Labels, mustBeAbsent, isNone, citesAbsent, citesNothing, isARow, isAnObligation, isHidden, isStruck, citesHidden, citesStruck, isEachUse, isAdding, leaves}
 use Rattle.justification.specs.Account as account
 use Rattle.justification.specs.Account.{Duty, DataAre, Follows, withLabel, withoutLabel}
-use Rattle.justification.proofs.Conclusions.{concludes, concluded}
+use Rattle.justification.proofs.Conclusions.{drawn, concluded}
 
 -- the tests of a step of rule r with formula f, argument a and premises' formulas fs, which leave L open
 pub record Tests (c : Case) (r : ℕ) (f : Formula) (a : ℕ) (fs : List Formula) (L : Labels) : Type 0 where
@@ -141,7 +139,7 @@ module _ (c : Case) (f : Formula) (a : ℕ) (fs : List Formula) (L : Labels) whe
       let v = shown (c .row a) (t .seen) (t .unstruck) in
       let e : conclusion (c .agent) (v .0) ≡ some f = that-is f _ (rw (v .1) at (t .fits)) in
       moved refl refl (none-of fs (ltb-false _ _ (t .most)))
-      (account.seen-row (inside _ _ (t .there)) (v .1) (concludes (c .agent) (v .0) f e))
+      (account.seen-row (inside _ _ (t .there)) (v .1) (drawn (c .agent) (v .0) f .0 e))
 
   follows-3 : Tests c 3 f a fs L → Step-follows c 3 f a fs L
   unfolding ruleAt rules rule say mustBeAbsent leaves spends isAnObligation

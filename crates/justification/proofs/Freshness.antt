@@ -11,19 +11,17 @@ use borrow.Author.Tests.{eq-eqb, ne-eqb}
 use Rattle.words.proofs.Ranges.{any-some, any-none}
 use Rattle.formula_book.specs.Formulas.{this-term, has}
 use Rattle.formula_book.specs.Book.{treeIn, book as trees}
-use Rattle.case_file.specs.Layout.{label-part, mostRecords, count}
+use Rattle.case_file.specs.Layout.{label-part, count}
 use Rattle.case_file.specs.Records.{formulas, labelFormula, stepRule, stepFormula, stepArgument}
 use Rattle.case_file.specs.Case.{caseOf}
-use Rattle.case_file.proofs.Laws.{part-few}
 use Rattle.tables.specs.Sets.{labelsOf}
-use Rattle.justification.specs.Turns.{IsStep, inOpenLabels}
-use Rattle.justification.specs.Fitting.{Lent}
+use Rattle.justification.specs.Turns.{Lent, IsStep, inOpenLabels}
 use Rattle.justification.specs.declared.steps.Step.{Step}
-use Rattle.justification.proofs.Citing.{parted, named}
+use Rattle.justification.proofs.Lent.{parted, labels-few}
+use Rattle.justification.proofs.Citing.{named}
 
 pub label-few : {s b : List ℕ} {l : ℕ} → Lent s b → l < count s label-part → l < 32
-unfolding mostRecords
-label-few {s} lent lt = omega (arith, part-few s (parted lent) label-part (omega arith))
+label-few {s} lent lt = omega (arith, labels-few s (parted lent))
 
 -- Label l is in the set, and the term stands in its formula.
 abbrev pub inLabel : (s : List ℕ) (term bits l : ℕ) → Bool

@@ -20,8 +20,7 @@ use Rattle.case_file.specs.Case.{caseOf}
 use Rattle.case_file.specs.Alike.{Alike}
 use Rattle.case_file.specs.Admission.{admission}
 use Rattle.case_file.specs.Parts.{Parted}
-use Rattle.case_file.proofs.Same.{Same, same}
-use Rattle.case_file.proofs.Struck.{parted-struck, alike-struck, rows-stay-good}
+use Rattle.case_file.proofs.Laws.{Same, same, parted-struck, alike-struck, rows-stay-good}
 use Rattle.justification.specs.Outcome.{Finding, finding, noProof, needlessProof, owes, ending, report, outcome}
 use Rattle.justification.specs.Demands.{WellMade, WellMadeFile, UnseenRowsAreUnseen, AsIfStruck}
 

@@ -15,7 +15,7 @@ use Rattle.justification.specs.Steps.{State, ruleOf, premisesOf, misshap
 use Rattle.tables.specs.Sets.{labelsOf, marks, opensOf}
 use Rattle.justification.specs.Tables.{stateOf, Tables}
 use Rattle.justification.specs.Turns.{Taken, IsAbove, Standing, EarlierNumbered, PremisesBelow, citationFault, useFault, orElse, stepFault, takes, Marked}
-use Rattle.justification.specs.Runs.{JudgedAs, Stepped, touched, afterStep}
+use Rattle.justification.specs.Runs.{aboveTold, RefusedBy, JudgedAs, Stepped, touched, afterStep}
 use Rattle.justification.specs.declared.run.Judged.{Judged}
 use Rattle.justification.specs.declared.uses.Above.{Above}
 use Rattle.justification.proofs.Entries.{or-zero}
@@ -24,10 +24,10 @@ use Rattle.justification.proofs.Stepping.{premises-earlier, all-taken}
 
 module _ (s : List ℕ) (k : ℕ) (o : List ℕ) (u d : List Bool) where
   -- Check 12 fails.
-  pub judged-12 : (r : Judged) → r .fault ≡ 12 → misshapen (caseOf s) k ≡ true → length u ≡ 2048 → JudgedAs s k o u d r u
-  unfolding stepFault
+  pub judged-12 : (r : Judged) → RefusedBy 12 r → misshapen (caseOf s) k ≡ true → length u ≡ 2048 → JudgedAs s k o u d r u
+  unfolding stepFault aboveTold
   judged-12 r e bad long =
-      record { long = long; is = λ c. e ∙ rw bad; above = λ z. absurd (omega (arith, e, z)); used = rw bad }
+      record { long = long; is = λ c. e .0 ∙ rw bad; above = λ c. e .1 ∙ rw bad; used = rw bad }
 
   module _ (u′ : List Bool) (from len : ℕ) (found : Bool) (fine : misshapen (caseOf s) k ≡ false) (e : from ≡ stepFrom s k) (f : len ≡ stepCount s k)
       (t : Taken s k from len u found u′) where
@@ -42,10 +42,10 @@ module _ (s : List ℕ) (k : ℕ) (o : List ℕ) (u d : List Bool) where
     used-is = rw fine (t .marked ∙ ap (takes (marks u) k) span)
 
     -- Check 13 fails.
-    pub judged-13 : (r : Judged) → r .fault ≡ 13 → found ≡ true → JudgedAs s k o u d r u′
-    unfolding stepFault stateOf
+    pub judged-13 : (r : Judged) → RefusedBy 13 r → found ≡ true → JudgedAs s k o u d r u′
+    unfolding stepFault aboveTold stateOf
     judged-13 r g bad =
-        record { long = t .long; is = λ c. g ∙ rw (fine, sym taken ∙ bad); above = λ z. absurd (omega (arith, g, z)); used = used-is }
+        record { long = t .long; is = λ c. g .0 ∙ rw (fine, sym taken ∙ bad); above = λ c. g .1 ∙ rw (fine, sym taken ∙ bad); used = used-is }
 
     module _ (free : found ≡ false) where
       none-bad : badPremises (marks u) k (premisesOf (caseOf s) k) ≡ false
@@ -55,13 +55,13 @@ module _ (s : List ℕ) (k : ℕ) (o : List ℕ) (u d : List Bool) where
       premises-below = premises-earlier (premiseStep s) (marks u) k len from (sym (t .is) ∙ free)
 
       -- One of 14 to 16 fails.
-      pub judged-missing : (r : Judged) (n : ℕ) → r .fault ≡ n → n ≡ citationFault (caseOf s) (ruleOf (caseOf s) k .names) (stepArgument s k) → (n ≡ 0 → ⊥) → JudgedAs s k o u d r u′
-      unfolding stepFault stateOf orElse caseOf
+      pub judged-missing : (r : Judged) (n : ℕ) → RefusedBy n r → n ≡ citationFault (caseOf s) (ruleOf (caseOf s) k .names) (stepArgument s k) → (n ≡ 0 → ⊥) → JudgedAs s k o u d r u′
+      unfolding stepFault aboveTold stateOf orElse caseOf
       judged-missing r n g is some =
           record {
             long = t .long;
-            is = λ c. g ∙ rw (fine, none-bad, ← is, ne-eqb n 0 some);
-            above = λ z. absurd (some (sym g ∙ z));
+            is = λ c. g .0 ∙ rw (fine, none-bad, ← is, ne-eqb n 0 some);
+            above = λ c. g .1 ∙ rw (fine, none-bad, ← is, ne-eqb n 0 some);
             used = used-is;
           }
 
@@ -69,14 +69,14 @@ module _ (s : List ℕ) (k : ℕ) (o : List ℕ) (u d : List Bool) where
       pub judged-use :
           (r : Judged) (n : ℕ) (above : Above) → r .fault ≡ n → r .above ≡ above .labels → citationFault (caseOf s) (ruleOf (caseOf s) k .names) (stepArgument s k) ≡ 0 →
           IsAbove s from len o above → n ≡ useFault (caseOf s) k (marks d) (labelsOf (above .labels .bits)) (above .shared) → JudgedAs s k o u d r u′
-      unfolding stepFault stateOf orElse caseOf
+      unfolding stepFault aboveTold stateOf orElse caseOf
       judged-use r n above g h there a is =
           let labels = a .labels ∙ ap (joined (opensOf o)) span in
           let shared = a .shared ∙ ap (share (caseOf s) (opensOf o)) span in
           record {
             long = t .long;
             is = λ c. g ∙ is ∙ rw (fine, none-bad, there, labels, shared);
-            above = λ z. ap (λ x. labelsOf (x .bits)) h ∙ labels;
+            above = λ c. ap (λ x. labelsOf (x .bits)) h ∙ labels ∙ rw (fine, none-bad, there);
             used = used-is;
           }
 
@@ -122,14 +122,15 @@ module _ (s : List ℕ) (k : ℕ) (o : List ℕ) (u c d : List Bool) (r : Judged
       (left : ℕ) (c′ d′ : List Bool) (n : Names) (e : Effect) (a : ℕ) →
       n ≡ ruleOf (caseOf s) k .names → e ≡ ruleOf (caseOf s) k .effect → a ≡ stepArgument s k → r .fault ≡ 0 → k < 2048 →
       labelsOf left ≡ leaves e a (labelsOf (r .above .bits)) → Marked n a c d c′ d′ → Stepped s k (stateOf o u c d) 0 (set o k left) u′ c′ d′
-  unfolding afterStep next stateOf caseOf
+  unfolding aboveTold afterStep next stateOf caseOf
   stepped-accepted left c′ d′ n e a n-is e-is a-is none few leaving m =
       let fault : stepFault (caseOf s) k (stateOf o u c d) ≡ 0 = sym (j .is c) ∙ none in
       let fine = no-fault s k (stateOf o u c d) fault in
       let used = rw (fine .0) at (j .used) ∙ all-taken (marks u) k (premisesOf (caseOf s) k) (fine .1) in
       let opens = opens-set o k left (rw (t .opens) few) in
+      let above = rw (fine .0, fine .1, fine .2) at (j .above c) in
       record {
         tables = record { opens = length-set o k left ∙ t .opens; used = j .long; cited = m .cited-long; discharged = m .discharged-long };
         is = sym fault;
-        state = rw (fault, opens, leaving, j .above none, used, m .cited, m .discharged, n-is, e-is, a-is);
+        state = rw (fault, opens, leaving, above, used, m .cited, m .discharged, n-is, e-is, a-is);
       }

@@ -8,18 +8,18 @@ use Rattle.case_file.specs.Layout.{formula-part, log-part, obligation-part, lab
 use Rattle.case_file.specs.Records.{formulas}
 use Rattle.case_file.specs.Parts.{Parted, Booked}
 use Rattle.case_file.proofs.Laws.{admitted-parted, admitted-booked, part-few}
-use Rattle.justification.specs.Turns.{CaseLent}
+use Rattle.justification.specs.Turns.{Lent}
 
-module _ {s b v : List ℕ} (h : CaseLent s b v) where
-  pub lent-parted : Parted s
-  lent-parted = admitted-parted s (h .admitted)
+module _ {s b : List ℕ} (lent : Lent s b) where
+  pub parted : Parted s
+  parted = admitted-parted s (lent .admitted)
 
-  pub lent-booked : Booked s b (count s formula-part)
-  lent-booked = rw (h .book) (admitted-booked s (h .admitted))
+  pub booked : Booked s b (count s formula-part)
+  booked = rw (lent .book) (admitted-booked s (lent .admitted))
 
   pub lent-trees : book b ≡ formulas s
   unfolding formulas
-  lent-trees = rw (h .book)
+  lent-trees = rw (lent .book)
 
 -- The limits of the parts.
 module _ (s : List ℕ) (h : Parted s) where

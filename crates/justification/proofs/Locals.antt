@@ -12,10 +12,10 @@ use Rattle.words.specs.Ranges.{listed}
 use Rattle.words.proofs.Tests.{and-true, and-intro, or-false, not-both, never-true}
 use Rattle.formula_book.specs.Formulas.{Formula, each-use, isPolicy, closed}
 use Rattle.formula_book.specs.Occurrences.{Policy, Closed}
-use Rattle.formula_book.proofs.Occurrences.{policy-is, closed-is}
+use Rattle.formula_book.proofs.Laws.{policy-is, closed-is}
 use Rattle.case_file.specs.Records.{badSpan}
-use Rattle.case_file.proofs.Spans
 use Rattle.case_file.specs.Case.{Case}
+use Rattle.case_file.proofs.Laws as laws
 use Rattle.justification.specs.Steps.{State, Labels, ruleOf, premisesOf, mustBeAbsent, misshapen, isAnObligation, joined, isEachUse, isAdding, share, usedTwice, misfit, notFresh}
 use Rattle.justification.specs.Account.{SpansAdjoin}
 use Rattle.justification.proofs.States.{Fine}
@@ -115,11 +115,11 @@ parts-fine c k s p =
 pub spans-adjoin : (c : Case) → ((k : ℕ) → k < c .steps → spanFault c k ≡ false) → SpansAdjoin c
 unfolding spanFault
 spans-adjoin c h =
-    let a = Spans.spans-adjoin (λ j. c .step j .from) (λ j. c .step j .len) (c .steps) (c .premises) h in
+    let a = laws.spans-adjoin (λ j. c .step j .from) (λ j. c .step j .len) (c .steps) (c .premises) h in
     record { first = a .first; next = a .next; last = a .last }
 
 pub adjoin-spans : (c : Case) → SpansAdjoin c → (k : ℕ) → k < c .steps → spanFault c k ≡ false
 unfolding spanFault
 adjoin-spans c a =
-    Spans.adjoin-spans (λ j. c .step j .from) (λ j. c .step j .len) (c .steps) (c .premises)
+    laws.adjoin-spans (λ j. c .step j .from) (λ j. c .step j .len) (c .steps) (c .premises)
     (record { first = a .first; next = a .next; last = a .last })

@@ -20,6 +20,12 @@ use Rattle.justification.specs.Rules.{first, second, say, refine, andLef
 use Rattle.justification.specs.Turns.{Numbered}
 use Rattle.justification.proofs.Comparing.{good-row, lower, read-shape}
 
+-- Formula k is made of the two formulas that its row r names, which are of the book too.
+pub record TwoParts (b : List ℕ) (k : ℕ) (r : rows.Row) (make : Formula → Formula → Formula) : Type 0 where
+  pub tree : treeIn (trees b) k ≡ make (treeIn (trees b) (r .x)) (treeIn (trees b) (r .y))
+  pub first : Numbered b (r .x)
+  pub second : Numbered b (r .y)
+
 -- Formula k of the book, by its row.
 module _ {b : List ℕ} {k : ℕ} (r : rows.Row) (n : Numbered b k) (is : rowMeant r ≡ rowAt b k) where
   abbrev tree : Formula
@@ -44,36 +50,18 @@ module _ {b : List ℕ} {k : ℕ} (r : rows.Row) (n : Numbered b k) (is : rowMea
   unfolding fieldsOf rowMeant
   no-and other f g = other-kind (read-shape r n is) (and f g) other
 
-  module _ (e : r .kind ≡ 3) where
-    pub and-tree : treeIn (trees b) k ≡ and (treeIn (trees b) (r .x)) (treeIn (trees b) (r .y))
-    unfolding rowMeant
-    and-tree = and-kind (read-shape r n is) e .0
-
-    pub and-first : Numbered b (r .x)
-    unfolding rowMeant
-    and-first = lower n (and-kind (read-shape r n is) e .1)
-
-    pub and-second : Numbered b (r .y)
-    unfolding rowMeant
-    and-second = lower n (and-kind (read-shape r n is) e .2)
+  pub and-parts : r .kind ≡ 3 → TwoParts b k r and
+  unfolding rowMeant
+  and-parts e = let t = and-kind (read-shape r n is) e in record { tree = t .0; first = lower n (t .1); second = lower n (t .2) }
 
   -- "F implies G"
   pub no-implies : (r .kind ≡ 5 → ⊥) → (f g : Formula) → same (treeIn (trees b) k) (implies f g) ≡ false
   unfolding fieldsOf rowMeant
   no-implies other f g = other-kind (read-shape r n is) (implies f g) other
 
-  module _ (e : r .kind ≡ 5) where
-    pub implies-tree : treeIn (trees b) k ≡ implies (treeIn (trees b) (r .x)) (treeIn (trees b) (r .y))
-    unfolding rowMeant
-    implies-tree = implies-kind (read-shape r n is) e .0
-
-    pub implies-first : Numbered b (r .x)
-    unfolding rowMeant
-    implies-first = lower n (implies-kind (read-shape r n is) e .1)
-
-    pub implies-second : Numbered b (r .y)
-    unfolding rowMeant
-    implies-second = lower n (implies-kind (read-shape r n is) e .2)
+  pub implies-parts : r .kind ≡ 5 → TwoParts b k r implies
+  unfolding rowMeant
+  implies-parts e = let t = implies-kind (read-shape r n is) e in record { tree = t .0; first = lower n (t .1); second = lower n (t .2) }
 
   -- for all
   pub no-for-all : (r .kind ≡ 4 → ⊥) → (σ : Sort) (f : Formula) → same (treeIn (trees b) k) (for-all σ f) ≡ false
@@ -111,7 +99,7 @@ module _ {b : List ℕ} {k : ℕ} (r : rows.Row) (n : Numbered b k) (is : rowMea
 
   pub left : {q : Bool} → r .kind ≡ 3 → q ≡ same (treeIn (trees b) k) (and f (treeIn (trees b) (r .y))) → (c : Case) (a : ℕ) → q ≡ andLeft c f a (treeIn (trees b) k ∷ [])
   unfolding andLeft first secondPart
-  left e q c a = q ∙ ap (λ g. same (treeIn (trees b) k) (and f g)) (sym (ap secondPart (and-tree r n is e)))
+  left e q c a = q ∙ ap (λ g. same (treeIn (trees b) k) (and f g)) (sym (ap secondPart (and-parts r n is e .tree)))
 
   pub not-right : (r .kind ≡ 3 → ⊥) → (c : Case) (a : ℕ) → false ≡ andRight c f a (treeIn (trees b) k ∷ [])
   unfolding andRight first
@@ -119,7 +107,7 @@ module _ {b : List ℕ} {k : ℕ} (r : rows.Row) (n : Numbered b k) (is : rowMea
 
   pub right : {q : Bool} → r .kind ≡ 3 → q ≡ same (treeIn (trees b) k) (and (treeIn (trees b) (r .x)) f) → (c : Case) (a : ℕ) → q ≡ andRight c f a (treeIn (trees b) k ∷ [])
   unfolding andRight first firstPart
-  right e q c a = q ∙ ap (λ g. same (treeIn (trees b) k) (and g f)) (sym (ap firstPart (and-tree r n is e)))
+  right e q c a = q ∙ ap (λ g. same (treeIn (trees b) k) (and g f)) (sym (ap firstPart (and-parts r n is e .tree)))
 
 -- Rule 4: the premises are formula k and any g, and the step's own formula is j.
 module _ {b : List ℕ} {k : ℕ} (r : rows.Row) (n : Numbered b k) (is : rowMeant r ≡ rowAt b k) (g : Formula) where
@@ -139,11 +127,12 @@ module _ {b : List ℕ} {k : ℕ} (r : rows.Row) (n : Numbered b k) (is : rowMea
           ≡ same g (says agent (treeIn (trees b) (r .x)) (o .z)) && same (treeIn (trees b) j) (says agent (treeIn (trees b) (r .y)) (o .z))
       unfolding refine first second caseOf firstPart secondPart target
       refine-is a =
-          let one : firstPart (treeIn (trees b) k) ≡ treeIn (trees b) (r .x) = ap firstPart (implies-tree r n is e) in
-          let two : secondPart (treeIn (trees b) k) ≡ treeIn (trees b) (r .y) = ap secondPart (implies-tree r n is e) in
+          let t = implies-parts r n is e .tree in
+          let one : firstPart (treeIn (trees b) k) ≡ treeIn (trees b) (r .x) = ap firstPart t in
+          let two : secondPart (treeIn (trees b) k) ≡ treeIn (trees b) (r .y) = ap secondPart t in
           let to : target (treeIn (trees b) j) ≡ o .z = ap target (says-tree o m own h) in
           let whole : same (treeIn (trees b) k) (implies (treeIn (trees b) (r .x)) (treeIn (trees b) (r .y))) ≡ true =
-          ap (λ t. same t (implies (treeIn (trees b) (r .x)) (treeIn (trees b) (r .y)))) (implies-tree r n is e) ∙ same-refl _ in
+          ap (λ f. same f (implies (treeIn (trees b) (r .x)) (treeIn (trees b) (r .y)))) t ∙ same-refl _ in
           rw (one, two, to, agent-is, whole)
 
       pub refined :

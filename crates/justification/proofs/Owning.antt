@@ -15,16 +15,16 @@ use Rattle.formula_book.specs.Book.{rowAt, treeIn, book as trees}
 use Rattle.formula_book.specs.DataSet.{front}
 use Rattle.formula_book.specs.Meanings.{rowMeant}
 use Rattle.formula_book.specs.declared.rows.Row as rows
-use Rattle.case_file.specs.Layout.{premise-part, mostRecords, agentOf}
+use Rattle.case_file.specs.Layout.{agentOf}
 use Rattle.case_file.specs.Records.{formulas, stepFormula, premiseStep}
 use Rattle.case_file.specs.Case.{Case, caseOf}
-use Rattle.case_file.proofs.Laws.{part-few}
 use Rattle.justification.specs.Rules.{sameAll, owner}
-use Rattle.justification.specs.Turns.{Numbered}
-use Rattle.justification.specs.Fitting.{Lent, PremiseThere, premiseTrees}
+use Rattle.justification.specs.Turns.{Lent, Numbered}
+use Rattle.justification.specs.Fitting.{PremiseThere, premiseTrees}
 use Rattle.justification.proofs.Premises.{listed-length}
 use Rattle.justification.proofs.Fits.{same-all}
-use Rattle.justification.proofs.Citing.{parted, named}
+use Rattle.justification.proofs.Lent.{parted, premises-few}
+use Rattle.justification.proofs.Citing.{named}
 use Rattle.justification.proofs.Matching.{no-says, says-tree}
 
 -- The first n premises from `from` on, t being the formulas of all, against the first n entries of the table.
@@ -66,8 +66,7 @@ compared lent e g q = ap (λ f. same f g) (sym (named lent e)) ∙ q
 
 -- The premise entries of a file are few.
 pub premise-few : {s b : List ℕ} {j : ℕ} → Lent s b → PremiseThere s j → j < 2048
-unfolding mostRecords
-premise-few {s} lent p = let h = p .entry in omega (arith, part-few s (parted lent) premise-part (omega arith))
+premise-few {s} lent p = let h = p .entry in omega (arith, premises-few s (parted lent))
 
 -- The premises before i are as the table has them.
 abbrev pub Owned : (s : List ℕ) (agent : ℕ) (set : List ℕ) (from i : ℕ) → Type 0

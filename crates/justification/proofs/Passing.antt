@@ -10,7 +10,7 @@ use borrow.Author.Tests.{ltb-true, ltb-false, lt-ltb, le-ltb, not-false}
 use Rattle.words.specs.Checks.{Checked, accepts, _>>_, _>>=_, check}
 use Rattle.words.proofs.Checks.{then-accepts, bind-accepts, check-accepts, check-holds, each-accepts, each-holds}
 use Rattle.formula_book.specs.Formulas.{Formula}
-use Rattle.formula_book.proofs.Same.{same-refl}
+use Rattle.formula_book.proofs.Laws.{same-refl}
 use Rattle.case_file.specs.Case.{Case, caseOf}
 use Rattle.case_file.specs.Admission.{admission}
 use Rattle.justification.specs.Rules.{isThat}

@@ -1,25 +1,21 @@
 -- The steps in order: the whole run from the start is the run from the present step with the present tables. Assumes nothing.
 use Prim.Native.Nat.{ℕ, suc, _+_, _-_, _≤_, _<_}
-use mathlib.Core.Path.{_≡_, refl, sym, ap, _∙_}
-use mathlib.Core.Bool.{Bool, false}
+use mathlib.Core.Path.{_≡_, sym, ap, _∙_}
+use mathlib.Core.Bool.{Bool}
 use mathlib.Core.Logic.{⊎-elim}
 use mathlib.Core.List.{List}
 use native.Mathlib.Nat.{eq-or-lt-of-le, le-of-suc-le-suc}
 use native.Mathlib.Omega.{arith}
 use borrow.Author.Tests.{ne-eqb}
 use Rattle.words.specs.Checks.{refuses, _>>=_}
-use Rattle.formula_book.specs.Formulas.{isPolicy}
-use Rattle.formula_book.proofs.Laws.{number-inside}
-use Rattle.case_file.specs.Layout.{formula-part, step-part, part, count}
-use Rattle.case_file.specs.Records.{formulas, stepFormula}
+use Rattle.case_file.specs.Layout.{step-part, count}
 use Rattle.case_file.specs.Case.{Case, caseOf}
-use Rattle.case_file.proofs.Laws.{admitted-booked}
-use Rattle.justification.specs.Steps.{State, misshapen, next, runFrom}
+use Rattle.justification.specs.Steps.{State, next, runFrom}
 use Rattle.justification.specs.Tables.{stateOf, Tables}
-use Rattle.justification.specs.Turns.{CaseLent, EarlierNumbered, stepFault}
+use Rattle.justification.specs.Turns.{Lent, EarlierNumbered, stepFault}
 use Rattle.justification.specs.Runs.{told, afterStep, afterRun, Stepped, ranMeant, RunGives}
 use Rattle.justification.specs.declared.run.Ran.the-variants.{Done, Stopped}
-use Rattle.justification.proofs.Standing.{shaped}
+use Rattle.justification.proofs.Standing.{formula-inside}
 use Rattle.justification.proofs.Stepping.{step-told}
 use Rattle.justification.proofs.Judging.{no-fault}
 
@@ -37,12 +33,6 @@ module _ (c : Case) (n k : ℕ) (s : State) (lt : k < n) where
       (runFrom c (n - k) k s ≡ runFrom c (n - (k + 1)) (k + 1) (next c k s)) × (afterRun c (n - k) k s ≡ afterRun c (n - (k + 1)) (k + 1) (next c k s))
   unfolding runFrom afterRun _>>=_ told
   run-accepted e = (rw (one, step-told c k s, e), rw (one, e))
-
--- An accepted step has a formula of the book.
-pub numbered : (s b v : List ℕ) (k : ℕ) → CaseLent s b v → misshapen (caseOf s) k ≡ false → stepFormula s k < count s formula-part
-unfolding formulas isPolicy
-numbered s b v k h fine =
-    number-inside (part s formula-part) (count s formula-part) (stepFormula s k) isPolicy (admitted-booked s (h .admitted) .passes) refl (shaped s k fine .policy)
 
 pub record Turn (s : List ℕ) (start : State) (n : ℕ) (o : List ℕ) (u c d : List Bool) (k : ℕ) : Type 0 where
   pub all : n ≡ count s step-part
@@ -84,9 +74,9 @@ module _ (s : List ℕ) (start : State) (n : ℕ) (o : List ℕ) (u c d : List B
             state = g .state ∙ sym (t .state ∙ h .1);
           }
 
-      pub turn-next : (b v : List ℕ) → CaseLent s b v → r ≡ 0 → Turn s start n o′ u′ c′ d′ (k + 1)
+      pub turn-next : {b : List ℕ} → Lent s b → r ≡ 0 → Turn s start n o′ u′ c′ d′ (k + 1)
       unfolding afterStep
-      turn-next b v lent none =
+      turn-next lent none =
           let fault : stepFault (caseOf s) k (stateOf o u c d) ≡ 0 = sym (g .is) ∙ none in
           let h = run-accepted (caseOf s) n k (stateOf o u c d) lt fault in
           let after : stateOf o′ u′ c′ d′ ≡ next (caseOf s) k (stateOf o u c d) = rw fault at (g .state) in
@@ -95,7 +85,7 @@ module _ (s : List ℕ) (start : State) (n : ℕ) (o : List ℕ) (u c d : List B
             all = t .all;
             passed = omega arith;
             tables = g .tables;
-            earlier = λ j below. ⊎-elim (λ q. rw q (numbered s b v k lent fine)) (λ l. t .earlier j l) (eq-or-lt-of-le (le-of-suc-le-suc (let l : suc j ≤ suc k = omega arith in l)));
+            earlier = λ j below. ⊎-elim (λ q. rw q (formula-inside k lent fine)) (λ l. t .earlier j l) (eq-or-lt-of-le (le-of-suc-le-suc (let l : suc j ≤ suc k = omega arith in l)));
             run = t .run ∙ h .0 ∙ ap (runFrom (caseOf s) (n - (k + 1)) (k + 1)) (sym after);
             state = t .state ∙ h .1 ∙ ap (afterRun (caseOf s) (n - (k + 1)) (k + 1)) (sym after);
           }

@@ -8,7 +8,7 @@ use native.Mathlib.Omega.{arith}
 use lib.ListN.{getD}
 use Rattle.formula_book.specs.Formulas.{Formula}
 use Rattle.formula_book.specs.Book.{treeIn, book as trees}
-use Rattle.case_file.specs.Layout.{log-part, mostRecords, count, agentOf}
+use Rattle.case_file.specs.Layout.{log-part, count, agentOf}
 use Rattle.case_file.specs.Records.{formulas}
 use Rattle.case_file.specs.Seen.{codeView}
 use Rattle.case_file.specs.Meanings.{viewMeant}
@@ -17,27 +17,23 @@ use Rattle.case_file.specs.declared.log.View.{View}
 use Rattle.case_file.specs.declared.log.View.the-variants.{Hidden, Struck, Shows}
 use denote.Enum.Declared.{tagOf}
 use Rattle.case_file.proofs.log.View.{the-type}
-use Rattle.case_file.proofs.Laws.{part-few, shown-named}
+use Rattle.case_file.proofs.Laws.{shown-named}
 use Rattle.justification.specs.Rules.{isThat, conclusion, rowConclusion, seenRow}
 use Rattle.justification.specs.Turns.{CaseLent, Numbered}
 use Rattle.justification.specs.Policies.{policyMeant, PolicyIs}
-use Rattle.justification.specs.Fitting.{Lent}
 use Rattle.justification.specs.declared.policies.Policy.{Policy}
-use Rattle.justification.proofs.Citing.{parted, numbered, named}
-
-pub lent-book : {s b v : List ℕ} → CaseLent s b v → Lent s b
-lent-book h = record { admitted = h .admitted; book = h .book }
+use Rattle.justification.proofs.Lent.{parted, rows-few}
+use Rattle.justification.proofs.Citing.{numbered, named}
 
 -- Row k of the log, and the view w of it that the table gives.
-module _ {s b v : List ℕ} (lent : CaseLent s b v) (k : ℕ) (inside : k < count s log-part) where
+module _ {s b v : List ℕ} (case : CaseLent s b v) (k : ℕ) (inside : k < count s log-part) where
   pub row-few : k < 1024
-  unfolding mostRecords
-  row-few = omega (arith, inside, part-few s (parted (lent-book lent)) log-part (omega arith))
+  row-few = omega (arith, inside, rows-few s (parted (case .lent)))
 
   module _ (w : View) (is : (l : List Formula) → viewMeant l w ≡ codeView l (getD v k 0)) where
     row-view : caseOf s .row k ≡ viewMeant (formulas s) w
     unfolding caseOf
-    row-view = sym (is (formulas s) ∙ lent .views k inside)
+    row-view = sym (is (formulas s) ∙ case .views k inside)
 
     seen-as : (f : Formula) → seenRow (caseOf s) f k [] ≡ isThat f (rowConclusion (agentOf s) (viewMeant (formulas s) w))
     unfolding seenRow caseOf
@@ -46,7 +42,7 @@ module _ {s b v : List ℕ} (lent : CaseLent s b v) (k : ℕ) (inside : k < coun
   module _ (n : ℕ) (is : (l : List Formula) → viewMeant l (Shows n) ≡ codeView l (getD v k 0)) where
     pub shown-numbered : Numbered b n
     unfolding viewMeant caseOf
-    shown-numbered = numbered (lent-book lent) (shown-named s (lent .admitted) k n inside (row-view (Shows n) is))
+    shown-numbered = numbered (case .lent) (shown-named s (case .lent .admitted) k n inside (row-view (Shows n) is))
 
     -- The conclusion, as a policy.
     module _ {agent : ℕ} (agent-is : agent ≡ agentOf s) (p : Policy) (given : PolicyIs b p (conclusion agent (treeIn (trees b) n))) (f : Formula) where
@@ -54,7 +50,7 @@ module _ {s b v : List ℕ} (lent : CaseLent s b v) (k : ℕ) (inside : k < coun
       unfolding viewMeant rowConclusion
       seen-policy =
           seen-as (Shows n) is f
-          ∙ ap (isThat f) (ap (conclusion (agentOf s)) (sym (named (lent-book lent) refl)) ∙ ap (λ a. conclusion a (treeIn (trees b) n)) (sym agent-is) ∙ sym (given .is))
+          ∙ ap (isThat f) (ap (conclusion (agentOf s)) (sym (named (case .lent) refl)) ∙ ap (λ a. conclusion a (treeIn (trees b) n)) (sym agent-is) ∙ sym (given .is))
 
   -- A row that shows nothing has no conclusion: the variants Hidden and Struck.
   pub unseen :

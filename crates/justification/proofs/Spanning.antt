@@ -1,7 +1,7 @@
 -- A walk over the numbers of a span, one turn at a time: what is left of the list at the number that the walk has come to. Assumes nothing.
 use Prim.Native.Nat.{ℕ, suc, _+_, _-_, _≤_, _<_}
 use mathlib.Core.Path.{_≡_}
-use mathlib.Core.List.{List, [], _∷_}
+use mathlib.Core.List.{[], _∷_}
 use native.Mathlib.Omega.{arith}
 use Rattle.words.specs.Ranges.{listed}
 

@@ -1,5 +1,5 @@
 -- A step that checks 12 to 16 have let pass: its formula and its premises are there, and its rule's test is that of the definition. Assumes nothing.
-use Prim.Native.Nat.{ℕ, zero, suc, _+_, _-_, _≤_, _<_}
+use Prim.Native.Nat.{ℕ, zero, suc, _+_, _≤_, _<_}
 use mathlib.Core.Path.{_≡_, refl, ap, _∙_}
 use mathlib.Core.Bool.{Bool, true, false, cond, not, _&&_}
 use mathlib.Core.Logic.{_⊎_}
@@ -16,12 +16,11 @@ use Rattle.formula_book.proofs.Laws.{number-inside}
 use Rattle.case_file.specs.Layout.{formula-part, step-part, premise-part, part, count}
 use Rattle.case_file.specs.Records.{formulas, stepRule, stepFormula, stepArgument, stepFrom, stepCount, premiseStep, badSpan}
 use Rattle.case_file.specs.Case.{caseOf}
-use Rattle.case_file.proofs.Spans.{span-holds}
-use Rattle.case_file.proofs.Laws.{admitted-booked}
+use Rattle.case_file.proofs.Laws.{admitted-booked, span-holds}
 use Rattle.justification.specs.Rules.{ruleAt}
 use Rattle.justification.specs.Steps.{ruleOf, premisesOf, mustBeAbsent, misshapen, misfit}
-use Rattle.justification.specs.Turns.{Numbered, IsStep, Standing, citationFault}
-use Rattle.justification.specs.Fitting.{Lent, PremiseThere, PremisesThere, premiseTrees, OneOfThree, Argued, Premised}
+use Rattle.justification.specs.Turns.{Lent, Numbered, IsStep, Standing, citationFault}
+use Rattle.justification.specs.Fitting.{PremiseThere, PremisesThere, premiseTrees, OneOfThree, Argued, Premised}
 use Rattle.justification.specs.declared.steps.Step.{Step}
 use Rattle.justification.proofs.Citing.{numbered, named}
 use Rattle.justification.proofs.Sorting.{some-premise, of-two, of-one, without-premise}
@@ -65,6 +64,12 @@ shaped s k e =
       most = ltb-false (ruleAt (stepRule s k) .most) (stepCount s k) (most .1);
     }
 
+-- A well-shaped step has a formula of the book.
+pub formula-inside : {s b : List ℕ} (k : ℕ) → Lent s b → misshapen (caseOf s) k ≡ false → stepFormula s k < count s formula-part
+unfolding formulas isPolicy
+formula-inside {s} k lent fine =
+    number-inside (part s formula-part) (count s formula-part) (stepFormula s k) isPolicy (admitted-booked s (lent .admitted) .passes) refl (shaped s k fine .policy)
+
 module _ {s b : List ℕ} {k : ℕ} (lent : Lent s b) (st : Standing s k) {t : Step} (is : IsStep s k t) where
   shape : Shaped s k
   shape = shaped s k (st .shaped)
@@ -82,10 +87,7 @@ module _ {s b : List ℕ} {k : ℕ} (lent : Lent s b) (st : Standing s k) {t : S
   own-policy = ap isPolicy (named lent (is .formula)) ∙ shape .policy
 
   pub own-numbered : Numbered b (t .formula)
-  unfolding formulas isPolicy
-  own-numbered =
-      rw (is .formula)
-      (numbered lent (number-inside (part s formula-part) (count s formula-part) (stepFormula s k) isPolicy (admitted-booked s (lent .admitted) .passes) refl (shape .policy)))
+  own-numbered = rw (is .formula) (numbered lent (formula-inside k lent (st .shaped)))
 
   pub premises-there : PremisesThere s (t .from) (t .len)
   premises-there j from to =

@@ -8,7 +8,6 @@ use lib.ListN.{getD}
 use lib.Dec.{eqb, ltb}
 use borrow.Author.Tests.{lt-ltb, le-ltb, eqb-true, eqb-false, ne-eqb, ltb-true, ltb-false}
 use Rattle.words.specs.Ranges.{any, listed, update}
-use Rattle.formula_book.specs.Formulas.{each-use}
 use Rattle.case_file.specs.Layout.{label-part, count}
 use Rattle.case_file.specs.Records.{labelMark, premiseStep}
 use Rattle.case_file.specs.Case.{caseOf}

@@ -2,7 +2,6 @@
 use Prim.Native.Nat.{ℕ}
 use mathlib.Core.Path.{_≡_}
 use mathlib.Core.List.{List}
-use lib.ListN.{length}
 use Rattle.words.specs.Checks.{Checked, accepts, _>>_, check, checkEach}
 use Rattle.case_file.specs.Views.{strike}
 use Rattle.case_file.specs.Case.{Case}

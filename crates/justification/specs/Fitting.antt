@@ -4,17 +4,10 @@ use mathlib.Core.Path.{_≡_}
 use mathlib.Core.Logic.{_⊎_}
 use mathlib.Core.List.{List}
 use Rattle.words.specs.Ranges.{listed}
-use Rattle.words.specs.Checks.{accepts}
 use Rattle.formula_book.specs.Formulas.{Formula}
 use Rattle.formula_book.specs.Book.{treeIn}
-use Rattle.case_file.specs.Layout.{formula-part, step-part, premise-part, part, count}
+use Rattle.case_file.specs.Layout.{formula-part, step-part, premise-part, count}
 use Rattle.case_file.specs.Records.{formulas, stepFormula, premiseStep}
-use Rattle.case_file.specs.Admission.{admission}
-
--- s is an admitted file, b the bytes of its formulas.
-pub record Lent (s b : List ℕ) : Type 0 where
-  pub admitted : admission s ≡ accepts tt
-  pub book : b ≡ part s formula-part
 
 -- Premise entry j is there, and so are its step and the formula of that.
 pub record PremiseThere (s : List ℕ) (j : ℕ) : Type 0 where

@@ -1,16 +1,16 @@
 -- The steps in order as the code takes them, and what it promises of its tables.
 use Prim.Native.Nat.{ℕ, zero, suc, _+_}
-use mathlib.Core.Bool.{Bool, cond}
+use mathlib.Core.Bool.{Bool, false, cond, not, _||_}
 use mathlib.Core.Path.{_≡_}
 use mathlib.Core.List.{List}
 use lib.ListN.{length}
 use lib.Dec.{eqb}
 use Rattle.words.specs.Checks.{Checked, accepts, refuses}
 use Rattle.case_file.specs.Case.{Case, caseOf}
-use Rattle.justification.specs.Steps.{State, premisesOf, misshapen, joined, next, runFrom}
-use Rattle.tables.specs.Sets.{labelsOf, marks, opensOf}
+use Rattle.justification.specs.Steps.{Labels, State, ruleOf, premisesOf, misshapen, badPremises, joined, next, runFrom}
+use Rattle.tables.specs.Sets.{labelsOf, marks}
 use Rattle.justification.specs.Tables.{stateOf, Tables}
-use Rattle.justification.specs.Turns.{takes, stepFault}
+use Rattle.justification.specs.Turns.{citationFault, stepFault, takes}
 use Rattle.justification.specs.declared.run.Judged.{Judged}
 use Rattle.justification.specs.declared.run.Ran.{Ran}
 use Rattle.justification.specs.declared.run.Ran.the-variants as ran
@@ -38,11 +38,22 @@ unfoldable pub afterRun : Case → (left k : ℕ) → State → State
 afterRun c zero k s = s
 afterRun c (suc left) k s = cond (eqb (stepFault c k s) 0) (afterRun c left (k + 1) (next c k s)) (touched c k s)
 
+-- The labels told beside the number of the first failing check of step k: those that its premises leave open together, and none where one of checks 12 to 16 fails.
+unfoldable pub aboveTold : Case → ℕ → State → Labels
+aboveTold c k s =
+    let ps = premisesOf c k in
+    let missing = citationFault c (ruleOf c k .names) (c .step k .argument) in
+    cond (misshapen c k || badPremises (s .used) k ps || not (eqb missing 0)) (λ l. false) (joined (s .opens) ps)
+
+-- Refused by check n, with no labels.
+abbrev pub RefusedBy : ℕ → Judged → Type 0
+RefusedBy n r = (r .fault ≡ n) × (labelsOf (r .above .bits) ≡ (λ l. false))
+
 -- What checks 12 to 19 find of step k, and every entry of the table of used steps. The rows cited have no part in it.
 pub record JudgedAs (f : List ℕ) (k : ℕ) (o : List ℕ) (u d : List Bool) (r : Judged) (u′ : List Bool) : Type 0 where
   pub long : length u′ ≡ 2048
   pub is : (c : List Bool) → r .fault ≡ stepFault (caseOf f) k (stateOf o u c d)
-  pub above : r .fault ≡ 0 → labelsOf (r .above .bits) ≡ joined (opensOf o) (premisesOf (caseOf f) k)
+  pub above : (c : List Bool) → labelsOf (r .above .bits) ≡ aboveTold (caseOf f) k (stateOf o u c d)
   pub used : marks u′ ≡ cond (misshapen (caseOf f) k) (marks u) (takes (marks u) k (premisesOf (caseOf f) k))
 
 -- Step k from the state s: the first check that fails, and every entry of the tables.

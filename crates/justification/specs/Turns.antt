@@ -1,5 +1,5 @@
 -- The parts of a step as the code takes them: what each asks for, and what it promises in the definition's words.
-use Prim.Native.Nat.{ℕ, _+_, _-_, _≤_, _<_}
+use Prim.Native.Nat.{ℕ, _+_, _≤_, _<_}
 use mathlib.Core.Bool.{Bool, true, false, cond, not, _&&_, _||_}
 use mathlib.Core.Path.{_≡_}
 use mathlib.Core.List.{List, [], _∷_}
@@ -10,7 +10,7 @@ use Rattle.words.specs.Ranges.{any, listed, update}
 use Rattle.words.specs.Checks.{accepts}
 use Rattle.formula_book.specs.Formulas.{each-use, this-term, has}
 use Rattle.formula_book.specs.Admission.{admitted, bookAnswer}
-use Rattle.case_file.specs.Layout.{formula-part, log-part, obligation-part, step-part, label-part, premise-part, part, count}
+use Rattle.case_file.specs.Layout.{formula-part, log-part, obligation-part, step-part, label-part, part, count}
 use Rattle.case_file.specs.Records.{formulas, stepRule, stepFormula, stepArgument, stepFrom, stepCount, premiseStep, labelMark}
 use Rattle.case_file.specs.Views.{rowView}
 use Rattle.case_file.specs.Seen.{codeView}
@@ -22,10 +22,14 @@ use Rattle.tables.specs.Sets.{labelsOf, marks, opensOf}
 use Rattle.justification.specs.declared.steps.Step.{Step}
 use Rattle.justification.specs.declared.uses.Above.{Above}
 
--- s is an admitted file, b the bytes of its formulas, v the table of what the agent sees of each row.
-pub record CaseLent (s b v : List ℕ) : Type 0 where
+-- s is an admitted file, b the bytes of its formulas.
+pub record Lent (s b : List ℕ) : Type 0 where
   pub admitted : admission s ≡ accepts tt
   pub book : b ≡ part s formula-part
+
+-- Such a file, with v the table of what the agent sees of each row.
+pub record CaseLent (s b v : List ℕ) : Type 0 where
+  pub lent : Lent s b
   pub long : length v ≡ 1024
   pub views : (k : ℕ) → k < count s log-part → codeView (formulas s) (getD v k 0) ≡ rowView s (formulas s) k
 

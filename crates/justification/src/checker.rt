@@ -13,7 +13,6 @@ use case_file::admit_into;
 use case_file::agent_of;
 use case_file::count_of;
 use case_file::part;
-ghost use mathlib.Core.Path.{_≡_};
 ghost use Prim.Native.Nat.{_<_};
 ghost use lib.ListN.{length};
 ghost use Rattle.case_file.specs.Layout.{step-part, count};

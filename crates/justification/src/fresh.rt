@@ -13,8 +13,7 @@ ghost use Rattle.case_file.specs.Layout.{label-part, count};
 ghost use Rattle.case_file.specs.Records.{formulas, stepRule, stepFormula, stepArgument, labelFormula};
 ghost use Rattle.case_file.specs.Case.{caseOf};
 ghost use Rattle.tables.specs.Sets.{labelsOf};
-ghost use Rattle.justification.specs.Turns.{IsStep, Standing, inOpenLabels};
-ghost use Rattle.justification.specs.Fitting.{Lent};
+ghost use Rattle.justification.specs.Turns.{Lent, IsStep, Standing, inOpenLabels};
 
 // Is label `l` in the set, and does the term stand in its formula? The formula of a label that is not open is not walked.
 fn in_open_label(file: &[u8], book: &[u8], term: u16, above: OpenSet, l: usize) -> bool

@@ -27,8 +27,8 @@ ghost use Rattle.case_file.specs.Parts.{Parted};
 ghost use Rattle.case_file.specs.Case.{Case, caseOf};
 ghost use Rattle.justification.specs.Rules as definition;
 ghost use Rattle.justification.specs.Steps.{misfit};
-ghost use Rattle.justification.specs.Turns.{CaseLent, Numbered, IsStep, Standing, citationFault};
-ghost use Rattle.justification.specs.Fitting.{Lent, PremiseThere, PremisesThere, premiseTrees, OneOfThree, Argued, Premised};
+ghost use Rattle.justification.specs.Turns.{Lent, CaseLent, Numbered, IsStep, Standing, citationFault};
+ghost use Rattle.justification.specs.Fitting.{PremiseThere, PremisesThere, premiseTrees, OneOfThree, Argued, Premised};
 
 // Check 18's number, or 0 where the rule fits.
 fn refusal(fits: bool) -> u16

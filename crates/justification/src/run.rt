@@ -26,7 +26,7 @@ ghost use Rattle.justification.specs.Steps.{leaves as leavesOf, ruleOf};
 ghost use Rattle.tables.specs.Sets.{labelsOf, marks};
 ghost use Rattle.justification.specs.Tables.{stateOf, Tables};
 ghost use Rattle.justification.specs.Turns.{CaseLent, Standing, IsStep, EarlierNumbered, LabelThere, CitedThere, Marked, eachUseLabels, shapeOf, useFault};
-ghost use Rattle.justification.specs.Runs.{JudgedAs, Stepped, RunGives};
+ghost use Rattle.justification.specs.Runs.{RefusedBy, JudgedAs, Stepped, RunGives};
 ghost use Rattle.justification.specs.Meanings.{namesMeant, effectMeant, shapeMeant};
 
 // The steps have all passed, or one is refused: the check's number, and the step.
@@ -97,14 +97,15 @@ fn use_fault(
     0
 }
 
-// What a step comes to: the number of the first of checks 12 to 19 that fails, or 0 and what its premises leave open together.
+// What a step comes to: the number of the first of checks 12 to 19 that fails, or 0, and the labels that its premises leave open together, none where one of 12 to 16 fails.
 pub struct Judged {
     pub fault: u16,
     pub above: OpenSet,
 }
 
+// Refused by one of checks 12 to 16.
 fn refused(fault: u16) -> Judged
-    ensures { λ r. ⌜ r .fault ≡ fault ⌝ }
+    ensures { λ r. ⌜ RefusedBy fault r ⌝ }
 {
     Judged {
         fault,

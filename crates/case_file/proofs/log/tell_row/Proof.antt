@@ -2,13 +2,11 @@
 use borrow.Author.Needs.{needs}
 use Prim.Native.Nat.{_+_}
 use mathlib.Core.Path.{_≡_, sym, ap, _∙_}
-use lib.Dec.{eqb}
 use native.Mathlib.Omega.{arith}
-use Rattle.case_file.specs.Layout.{log-part, observer-part, count}
-use Rattle.case_file.specs.Records.{formulas, rowAction, rowFrom, rowCount, spanDue, spanFault, badAction}
+use Rattle.case_file.specs.Records.{formulas, rowAction, badAction, badSpan}
 use Rattle.case_file.specs.Seen.{ListAnswer, rowAnswer}
 use Rattle.case_file.specs.Meanings.{listedMeant, toldMeant}
-use Rattle.case_file.proofs.Seeing.{rows-few, booked-trees, span-within, listed, action-bad, span-bad, row-listed}
+use Rattle.case_file.proofs.Seeing.{rows-few, booked-trees, rowSpan, span-within, listed, action-bad, span-bad, row-listed}
 use Rattle.case_file.proofs.log.tell_row.Statement.{statement}
 use Rattle.case_file.proofs.log.tell_row.Tie as tie
 
@@ -26,10 +24,8 @@ action-is c =
     ∙ ap (λ l. badAction l (c .before .row-action .result)) (booked-trees s (first c .args .book .now) (first c .args .formulas) (first c .pre .0 .1))
     ∙ ap (badAction (formulas s)) (c .before .row-action .ensures)
 
-span-is :
-    (c : tie.After-bad-span) → c .bad-span .result ≡
-    spanFault (spanDue (rowFrom (second c .args .file .now)) (rowCount (second c .args .file .now)) (second c .args .k)) (rowFrom (second c .args .file .now) (second c .args .k)) (rowCount (second c .args .file .now) (second c .args .k))
-    (eqb (second c .args .k + 1) (count (second c .args .file .now) log-part)) (count (second c .args .file .now) observer-part)
+span-is : (c : tie.After-bad-span) → c .bad-span .result ≡ rowSpan (second c .args .file .now) (second c .args .k)
+unfolding badSpan
 span-is c =
     rw
     (second c .pre .1 .1, c .before .before .before .before .row-from .ensures, c .before .before .before .row-count .ensures, c .before .before .count-of .ensures .0, c .before .count-of2 .ensures .0)
@@ -81,7 +77,7 @@ agent-of-requires c κs = search needs
 look-requires : tie.Need-look-requires
 look-requires c κs =
     let b = c .before .before in
-    let within = span-within _ _ _ _ _ (sym (span-is b) ∙ c .before .if2 .left) in
+    let within = span-within _ _ (sym (span-is b) ∙ c .before .if2 .left) in
     (second b .pre .0 .0, omega (arith, within, b .before .before .before .before .row-from .ensures, b .before .before .before .row-count .ensures))
 
 -- What the row comes to by the answer of its list.

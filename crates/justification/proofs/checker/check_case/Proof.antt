@@ -2,15 +2,13 @@
 use borrow.Author.Needs.{needs}
 use mathlib.Core.Path.{_≡_, sym, ap, _∙_}
 use native.Mathlib.Omega.{arith}
-use Rattle.formula_book.specs.Book.{treeIn, book as trees}
+use Rattle.formula_book.specs.Book.{book as trees}
 use Rattle.case_file.specs.Case.{caseOf}
-use Rattle.case_file.proofs.Laws.{audit-named}
-use Rattle.justification.specs.Rules.{owed}
 use Rattle.justification.specs.Outcome.{owes}
 use Rattle.justification.specs.Policies.{policyMeant}
-use Rattle.justification.proofs.Lent.{lent-parted, lent-trees}
-use Rattle.justification.proofs.SeenRows.{lent-book}
-use Rattle.justification.proofs.Citing.{numbered}
+use Rattle.justification.specs.declared.policies.Policy.{Policy}
+use Rattle.justification.proofs.Lent.{parted}
+use Rattle.justification.proofs.Giving.{action-numbered, owes-told}
 use Rattle.justification.proofs.Concluding.{needless-steps, nothing-owed-reported, owed-without-steps, owed-with-steps}
 use Rattle.justification.proofs.checker.check_case.Statement.{statement}
 use Rattle.justification.proofs.checker.check_case.Tie as tie
@@ -18,26 +16,26 @@ use Rattle.justification.proofs.checker.check_case.Tie as tie
 abbrev start : tie.After-count-of → tie.Start
 start k = k .before .before .before .before .before .before .before
 
-owes-is : (k : tie.After-count-of) → policyMeant (trees (start k .args .book .now)) (k .before .owed-by .result) ≡ owes (caseOf (start k .args .file .now))
-unfolding owes caseOf
-owes-is k =
-    let l = lent-trees (start k .pre) in
-    k .before .owed-by .ensures .is ∙ (λ i. owed (k .before .before .agent-of .ensures i) (treeIn (l i) (k .before .before .before .action-of .ensures i)))
+-- What the case owes, by the policy that was found.
+owes-as : (k : tie.After-count-of) (p : Policy) → k .before .owed-by .result ≡ p → owes (caseOf (start k .args .file .now)) ≡ policyMeant (trees (start k .args .book .now)) p
+owes-as k p e =
+    sym (owes-told (start k .pre .lent) (k .before .before .before .action-of .ensures) (k .before .before .agent-of .ensures) (k .before .owed-by .ensures))
+    ∙ ap (policyMeant _) e
 
 action-of-requires : tie.Need-action-of-requires
-action-of-requires c κs = lent-parted (c .before .before .before .pre)
+action-of-requires c κs = parted (c .before .before .before .pre .lent)
 
 cast-action : tie.Need-cast-action
 cast-action c = search needs
 
 agent-of-requires : tie.Need-agent-of-requires
-agent-of-requires c κs = lent-parted (c .before .before .before .before .pre)
+agent-of-requires c κs = parted (c .before .before .before .before .pre .lent)
 
 owed-by-requires : tie.Need-owed-by-requires
-owed-by-requires c κs = let h = c .before .before .before .before .before .pre in rw (c .before .action-of .ensures) (numbered (lent-book h) (audit-named _ (h .admitted)))
+owed-by-requires c κs = action-numbered (c .before .before .before .before .before .pre .lent) (c .before .action-of .ensures)
 
 count-of-requires : tie.Need-count-of-requires
-count-of-requires c κs = (lent-parted (c .before .before .before .before .before .before .pre), omega arith)
+count-of-requires c κs = (parted (c .before .before .before .before .before .before .pre .lent), omega arith)
 
 enum-told : tie.Need-enum-told
 enum-told c = search needs
@@ -46,8 +44,7 @@ returns : tie.Need-returns
 unfolding policyMeant caseOf
 returns c =
     let k = c .before .before .before in
-    let st = start k in
-    needless-steps (caseOf (st .args .file .now)) (st .args .room .now) (sym (owes-is k) ∙ ap (policyMeant _) (c .before .enum-told .given .1)) (omega (arith, k .count-of .ensures .0, c .if1 .taken))
+    needless-steps _ _ (owes-as k _ (c .before .enum-told .given .1)) (omega (arith, k .count-of .ensures .0, c .if1 .taken))
 
 enum-told-2 : tie.Need-enum-told-2
 enum-told-2 c = search needs
@@ -56,8 +53,7 @@ returns-2 : tie.Need-returns-2
 unfolding policyMeant caseOf
 returns-2 c =
     let k = c .before .before .before in
-    let st = start k in
-    owed-without-steps (caseOf (st .args .file .now)) (st .args .room .now) _ (sym (owes-is k) ∙ ap (policyMeant _) (c .before .enum-told2 .given .1)) (omega (arith, k .count-of .ensures .0, c .if2 .taken))
+    owed-without-steps _ _ _ (owes-as k _ (c .before .enum-told2 .given .1)) (omega (arith, k .count-of .ensures .0, c .if2 .taken))
 
 check-steps-requires : tie.Need-check-steps-requires
 check-steps-requires c κs = search needs
@@ -66,8 +62,7 @@ returns-3 : tie.Need-returns-3
 unfolding policyMeant caseOf
 returns-3 c =
     let k = c .before .before .before in
-    let st = start k in
-    nothing-owed-reported (caseOf (st .args .file .now)) (st .args .room .now) (sym (owes-is k) ∙ ap (policyMeant _) (c .before .enum-told .given .1)) (omega (arith, k .count-of .ensures .0, c .if1 .left))
+    nothing-owed-reported _ _ (owes-as k _ (c .before .enum-told .given .1)) (omega (arith, k .count-of .ensures .0, c .if1 .left))
 
 same-length : tie.Need-same-length
 same-length c = search needs
@@ -76,8 +71,7 @@ returns-4 : tie.Need-returns-4
 unfolding policyMeant caseOf
 returns-4 c =
     let k = c .before .before .before .before .before .before .before in
-    let st = start k in
-    owed-with-steps (caseOf (st .args .file .now)) (st .args .room .now) _ (sym (owes-is k) ∙ ap (policyMeant _) (c .before .before .before .before .before .enum-told2 .given .1)) _ _ (omega (arith, k .count-of .ensures .0, c .before .before .before .before .if2 .left)) (c .before .before .check-steps .ensures)
+    owed-with-steps _ _ _ (owes-as k _ (c .before .before .before .before .before .enum-told2 .given .1)) _ _ (omega (arith, k .count-of .ensures .0, c .before .before .before .before .if2 .left)) (c .before .before .check-steps .ensures)
 
 pub check-case-spec : {M : Type 1} → statement M
 check-case-spec =

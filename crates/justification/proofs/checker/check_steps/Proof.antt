@@ -50,7 +50,7 @@ conclude-requires c κs =
     let r = c .before .before .before .before .before .before .before in
     let pre = start r .pre in
     let run = sym (run-is r) ∙ ap (λ x. ranMeant x (stateOf (r .run-steps .last .1 .1 .1 .0) (r .run-steps .last .1 .1 .1 .1 .0) (r .run-steps .last .1 .1 .1 .1 .1 .0) (r .run-steps .last .1 .1 .1 .1 .1 .1 .0))) (c .before .before .before .before .before .enum-told .given .1) in
-    ((pre .0, r .run-steps .ensures .tables), (pre .1, all-numbered _ _ _ _ (pre .0) run))
+    ((pre .0, r .run-steps .ensures .tables), (pre .1, all-numbered (pre .0 .lent) run))
 
 returns : tie.Need-returns
 unfolding ranMeant

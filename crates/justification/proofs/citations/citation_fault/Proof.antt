@@ -1,12 +1,12 @@
 -- `citation_fault` meets its contract: an arm for each thing that an argument names. Assumes nothing.
 use borrow.Author.Needs.{needs}
-use mathlib.Core.Path.{sym, _∙_}
+use mathlib.Core.Path.{sym}
 use native.Mathlib.Omega.{arith}
 use borrow.Author.Tests.{eq-eqb, ne-eqb}
 use Rattle.words.specs.Words.{absent}
 use Rattle.case_file.specs.Case.{caseOf}
 use Rattle.justification.specs.Meanings.{namesMeant}
-use Rattle.justification.proofs.Lent.{lent-parted}
+use Rattle.justification.proofs.Lent.{parted}
 use Rattle.justification.proofs.Entries.{label-fault, obligation-fault, term-fault, nothing-fault}
 use Rattle.justification.proofs.citations.citation_fault.Statement.{statement}
 use Rattle.justification.proofs.citations.citation_fault.Tie as tie
@@ -18,7 +18,7 @@ enum-told-2 : tie.Need-enum-told-2
 enum-told-2 c = search needs
 
 count-of-requires : tie.Need-count-of-requires
-count-of-requires c κs = (lent-parted (c .before .before .before .before .pre), omega arith)
+count-of-requires c κs = (parted (c .before .before .before .before .pre .lent), omega arith)
 
 entry-fault-requires : tie.Need-entry-fault-requires
 entry-fault-requires c κs = search needs
@@ -39,7 +39,7 @@ enum-told-5 : tie.Need-enum-told-5
 enum-told-5 c = search needs
 
 count-of-requires-2 : tie.Need-count-of-requires-2
-count-of-requires-2 c κs = (lent-parted (c .before .before .before .before .pre), omega arith)
+count-of-requires-2 c κs = (parted (c .before .before .before .before .pre .lent), omega arith)
 
 entry-fault-requires-2 : tie.Need-entry-fault-requires-2
 entry-fault-requires-2 c κs = search needs

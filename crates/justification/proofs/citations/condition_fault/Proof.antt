@@ -6,14 +6,13 @@ use borrow.Author.Tests.{eq-eqb, ne-eqb}
 use Rattle.words.specs.Words.{absent}
 use Rattle.case_file.specs.Layout.{condition-part, count}
 use Rattle.case_file.specs.Case.{caseOf}
-use Rattle.justification.specs.Turns.{entryFault}
-use Rattle.justification.proofs.Lent.{lent-parted}
+use Rattle.justification.proofs.Lent.{parted}
 use Rattle.justification.proofs.Entries.{entry-first, entry-second, entry-there, condition-fault, no-reading}
 use Rattle.justification.proofs.citations.condition_fault.Statement.{statement}
 use Rattle.justification.proofs.citations.condition_fault.Tie as tie
 
 count-of-requires : tie.Need-count-of-requires
-count-of-requires c κs = (lent-parted (c .before .before .pre), omega arith)
+count-of-requires c κs = (parted (c .before .before .pre .lent), omega arith)
 
 entry-fault-requires : tie.Need-entry-fault-requires
 entry-fault-requires c κs = search needs
@@ -23,7 +22,7 @@ unfolding caseOf
 returns c = let st = c .before .before .before .before .before in let s = st .args .file .now in let a = st .args .argument in rw (condition-fault (caseOf s) a) (entry-first (count s condition-part) a _ _ (rw (c .before .before .count-of .ensures .0) at (c .before .entry-fault .ensures)) (c .if1 .taken))
 
 condition-formula-requires : tie.Need-condition-formula-requires
-condition-formula-requires c κs = let st = c .before .before .before .before .before in let s = st .args .file .now in let a = st .args .argument in (lent-parted (st .pre), entry-there (count s condition-part) a (sym (rw (c .before .before .count-of .ensures .0) at (c .before .entry-fault .ensures)) ∙ c .if1 .left) .1)
+condition-formula-requires c κs = let st = c .before .before .before .before .before in let s = st .args .file .now in let a = st .args .argument in (parted (st .pre .lent), entry-there (count s condition-part) a (sym (rw (c .before .before .count-of .ensures .0) at (c .before .entry-fault .ensures)) ∙ c .if1 .left) .1)
 
 returns-2 : tie.Need-returns-2
 unfolding caseOf

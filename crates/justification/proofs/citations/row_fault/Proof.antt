@@ -7,14 +7,13 @@ use Rattle.case_file.specs.Records.{formulas}
 use Rattle.case_file.specs.Meanings.{viewMeant}
 use Rattle.case_file.specs.Case.{caseOf}
 use Rattle.justification.specs.Steps.{isHidden, isStruck}
-use Rattle.justification.specs.Turns.{entryFault}
-use Rattle.justification.proofs.Lent.{lent-parted, rows-few}
+use Rattle.justification.proofs.Lent.{parted, rows-few}
 use Rattle.justification.proofs.Entries.{entry-first, entry-second, entry-there, row-fault, row-looked}
 use Rattle.justification.proofs.citations.row_fault.Statement.{statement}
 use Rattle.justification.proofs.citations.row_fault.Tie as tie
 
 count-of-requires : tie.Need-count-of-requires
-count-of-requires c κs = (lent-parted (c .before .before .pre), omega arith)
+count-of-requires c κs = (parted (c .before .before .pre .lent), omega arith)
 
 entry-fault-requires : tie.Need-entry-fault-requires
 entry-fault-requires c κs = search needs
@@ -24,7 +23,7 @@ unfolding caseOf isHidden isStruck viewMeant
 returns c = let st = c .before .before .before .before .before in let s = st .args .file .now in let a = st .args .argument in rw (row-fault (caseOf s) a) (entry-first (count s log-part) a _ _ (rw (c .before .before .count-of .ensures .0) at (c .before .entry-fault .ensures)) (c .if1 .taken))
 
 view-at-requires : tie.Need-view-at-requires
-view-at-requires c κs = let st = c .before .before .before .before .before in let s = st .args .file .now in let a = st .args .argument in (omega (arith, entry-there (count s log-part) a (sym (rw (c .before .before .count-of .ensures .0) at (c .before .entry-fault .ensures)) ∙ c .if1 .left) .1, rows-few s (lent-parted (st .pre))), st .pre .long)
+view-at-requires c κs = let st = c .before .before .before .before .before in let s = st .args .file .now in let a = st .args .argument in (omega (arith, entry-there (count s log-part) a (sym (rw (c .before .before .count-of .ensures .0) at (c .before .entry-fault .ensures)) ∙ c .if1 .left) .1, rows-few s (parted (st .pre .lent))), st .pre .long)
 
 enum-told : tie.Need-enum-told
 enum-told c = search needs

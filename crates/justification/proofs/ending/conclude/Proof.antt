@@ -5,12 +5,11 @@ use mathlib.Core.Path.{_≡_, sym, ap, _∙_}
 use mathlib.Core.Bool.{not}
 use native.Mathlib.Omega.{arith}
 use Rattle.words.specs.Ranges.{lowest}
-use Rattle.case_file.specs.Layout.{step-part, count}
 use Rattle.case_file.specs.Case.{caseOf}
 use Rattle.justification.specs.Outcome.{lastStep, unusedStep, openLabel}
 use Rattle.tables.specs.Sets.{marks, opensOf}
 use Rattle.justification.specs.Tables.{stateOf}
-use Rattle.justification.proofs.Lent.{lent-parted, steps-few, labels-few}
+use Rattle.justification.proofs.Lent.{parted, steps-few, labels-few}
 use Rattle.justification.proofs.Concluding.{concluded-20, concluded-21, concluded-22, concluded-listing}
 use Rattle.justification.proofs.ending.conclude.Statement.{statement}
 use Rattle.justification.proofs.ending.conclude.Tie as tie
@@ -26,7 +25,7 @@ unfolding lastStep caseOf
 last-is f = ap (λ n. n - 1) (f .before .count-of .ensures .0)
 
 few : (f : tie.After-first-unmarked) → f .before .count-of .result ≤ 2048
-few f = omega (arith, f .before .count-of .ensures .0, steps-few _ (lent-parted (start f .pre .0 .0)))
+few f = omega (arith, f .before .count-of .ensures .0, steps-few _ (parted (start f .pre .0 .0 .lent)))
 
 unused-is :
     (f : tie.After-first-unmarked) →
@@ -44,13 +43,13 @@ open-is o =
     ∙ (λ i. lowest (opensOf (begin o .args .opens .now) (last-is (o .before .before .before .before) i)) (o .before .before .count-of2 .ensures .0 i) 0)
 
 count-of-requires : tie.Need-count-of-requires
-count-of-requires c κs = (lent-parted (c .before .before .before .before .before .before .before .pre .0 .0), omega arith)
+count-of-requires c κs = (parted (c .before .before .before .before .before .before .before .pre .0 .0 .lent), omega arith)
 
 sub-last : tie.Need-sub-last
 sub-last c = search needs
 
 first-unmarked-requires : tie.Need-first-unmarked-requires
-first-unmarked-requires c κs = let pre = c .before .before .before .before .before .before .before .before .pre in omega (arith, c .count-of .ensures .0, steps-few _ (lent-parted (pre .0 .0)), pre .0 .1 .used)
+first-unmarked-requires c κs = let pre = c .before .before .before .before .before .before .before .before .pre in omega (arith, c .count-of .ensures .0, steps-few _ (parted (pre .0 .0 .lent)), pre .0 .1 .used)
 
 cast-t16 : tie.Need-cast-t16
 cast-t16 c = let f = c .before in omega (arith, c .if1 .taken, few f)
@@ -62,7 +61,7 @@ returns c =
     concluded-20 (caseOf (st .args .file .now)) (stateOf (st .args .opens .now) (st .args .used .now) (st .args .cited .now) (st .args .discharged .now)) (st .args .room .now) _ (unused-is f) (rw (sym (last-is f)) (c .if1 .taken))
 
 count-of-requires-2 : tie.Need-count-of-requires-2
-count-of-requires-2 c κs = (lent-parted (c .before .before .before .before .before .before .before .before .before .before .pre .0 .0), omega arith)
+count-of-requires-2 c κs = (parted (c .before .before .before .before .before .before .before .before .before .before .pre .0 .0 .lent), omega arith)
 
 mul-t14 : tie.Need-mul-t14
 mul-t14 c = omega (arith, few (c .before .before))
@@ -71,10 +70,10 @@ shared-slice-read-t18 : tie.Need-shared-slice-read-t18
 shared-slice-read-t18 c = let f = c .before .before .before in omega (arith, f .before .count-of .ensures .0, few f, start f .pre .0 .1 .opens, start f .pre .1 .0)
 
 first-open-requires : tie.Need-first-open-requires
-first-open-requires c κs = omega (arith, c .before .count-of2 .ensures .0, labels-few _ (lent-parted (c .before .before .before .before .before .before .before .before .before .before .before .before .pre .0 .0)))
+first-open-requires c κs = omega (arith, c .before .count-of2 .ensures .0, labels-few _ (parted (c .before .before .before .before .before .before .before .before .before .before .before .before .pre .0 .0 .lent)))
 
 cast-t19 : tie.Need-cast-t19
-cast-t19 c = let o = c .before in omega (arith, c .if2 .taken, o .before .before .count-of2 .ensures .0, labels-few _ (lent-parted (begin o .pre .0 .0)))
+cast-t19 c = let o = c .before in omega (arith, c .if2 .taken, o .before .before .count-of2 .ensures .0, labels-few _ (parted (begin o .pre .0 .0 .lent)))
 
 returns-2 : tie.Need-returns-2
 unfolding caseOf
@@ -99,7 +98,7 @@ returns-3 c =
     concluded-22 (caseOf (st .args .file .now)) (stateOf (st .args .opens .now) (st .args .used .now) (st .args .cited .now) (st .args .discharged .now)) (st .args .room .now) _ (unused-is f) (omega (arith, o .before .before .before .if1 .left, last-is f)) _ (open-is o) (omega (arith, o .before .before .count-of2 .ensures .0, c .before .before .if2 .left)) _ (last-is f) (sym (c .before .wrong-end .ensures) ∙ c .if3 .taken)
 
 list-cited-requires : tie.Need-list-cited-requires
-list-cited-requires c κs = let pre = c .before .before .before .before .before .before .before .before .before .before .before .before .before .before .before .before .before .pre in (lent-parted (pre .0 .0), pre .0 .1 .cited, pre .0 .1 .discharged)
+list-cited-requires c κs = let pre = c .before .before .before .before .before .before .before .before .before .before .before .before .before .before .before .before .before .pre in (parted (pre .0 .0 .lent), pre .0 .1 .cited, pre .0 .1 .discharged)
 
 same-length : tie.Need-same-length
 same-length c = search needs

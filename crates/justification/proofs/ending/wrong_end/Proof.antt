@@ -1,36 +1,34 @@
 -- `wrong_end` meets its contract. Assumes nothing.
 use borrow.Author.Needs.{needs}
-use Prim.Native.Nat.{ℕ, _-_}
-use mathlib.Core.Path.{_≡_, sym, ap, _∙_}
+use Prim.Native.Nat.{_-_}
+use mathlib.Core.Path.{_≡_, ap, _∙_}
 use mathlib.Core.Bool.{not}
 use native.Mathlib.Omega.{arith}
-use Rattle.formula_book.specs.Book.{treeIn}
 use Rattle.case_file.specs.Layout.{step-part, count}
-use Rattle.case_file.specs.Records.{formulas, stepFormula}
+use Rattle.case_file.specs.Records.{stepFormula}
 use Rattle.case_file.specs.Case.{caseOf}
-use Rattle.case_file.proofs.Laws.{audit-named}
-use Rattle.justification.specs.Rules.{isThat, owed}
-use Rattle.justification.specs.Outcome.{owes, lastStep, wrongEnd}
-use Rattle.justification.proofs.Lent.{lent-parted, lent-trees}
-use Rattle.justification.proofs.SeenRows.{lent-book}
-use Rattle.justification.proofs.Citing.{numbered}
+use Rattle.justification.specs.Rules.{isThat}
+use Rattle.justification.specs.Outcome.{lastStep, wrongEnd}
+use Rattle.justification.proofs.Lent.{parted}
+use Rattle.justification.proofs.Citing.{numbered, named}
+use Rattle.justification.proofs.Giving.{action-numbered, owes-told}
 use Rattle.justification.proofs.ending.wrong_end.Statement.{statement}
 use Rattle.justification.proofs.ending.wrong_end.Tie as tie
 
 action-of-requires : tie.Need-action-of-requires
-action-of-requires c κs = lent-parted (c .before .before .pre .0)
+action-of-requires c κs = parted (c .before .before .pre .0 .lent)
 
 cast-action : tie.Need-cast-action
 cast-action c = search needs
 
 agent-of-requires : tie.Need-agent-of-requires
-agent-of-requires c κs = lent-parted (c .before .before .before .pre .0)
+agent-of-requires c κs = parted (c .before .before .before .pre .0 .lent)
 
 owed-by-requires : tie.Need-owed-by-requires
-owed-by-requires c κs = let h = c .before .before .before .before .pre .0 in rw (c .before .action-of .ensures) (numbered (lent-book h) (audit-named _ (h .admitted)))
+owed-by-requires c κs = action-numbered (c .before .before .before .before .pre .0 .lent) (c .before .action-of .ensures)
 
 step-formula-requires : tie.Need-step-formula-requires
-step-formula-requires c κs = let pre = c .before .before .before .before .before .pre in (lent-parted (pre .0), omega (arith, pre .1 .0))
+step-formula-requires c κs = let pre = c .before .before .before .before .before .pre in (parted (pre .0 .lent), omega (arith, pre .1 .0))
 
 cast-formula : tie.Need-cast-formula
 cast-formula c = search needs
@@ -38,18 +36,18 @@ cast-formula c = search needs
 is-that-requires : tie.Need-is-that-requires
 is-that-requires c κs =
     let pre = c .before .before .before .before .before .before .pre in
-    (rw (c .step-formula .ensures) (numbered (lent-book (pre .0)) (pre .1 .1 _ (omega (arith, pre .1 .0)))), c .before .owed-by .ensures .told)
+    (rw (c .step-formula .ensures) (numbered (pre .0 .lent) (pre .1 .1 _ (omega (arith, pre .1 .0)))), c .before .owed-by .ensures .told)
 
 returns : tie.Need-returns
-unfolding wrongEnd owes lastStep caseOf
+unfolding wrongEnd lastStep caseOf
 returns c =
     let st = c .before .before .before .before .before .before .before in
     let s = st .args .file .now in
-    let trees = lent-trees (st .pre .0) in
+    let lent = st .pre .0 .lent in
     let last : st .args .last ≡ count s step-part - 1 = omega (arith, st .pre .1 .0) in
-    let formula = c .before .step-formula .ensures ∙ ap (stepFormula s) last in
-    let owed-is = c .before .before .owed-by .ensures .is ∙ (λ i. owed (c .before .before .before .agent-of .ensures i) (treeIn (trees i) (c .before .before .before .before .action-of .ensures i))) in
-    ap not (c .is-that .ensures ∙ (λ i. isThat (treeIn (trees i) (formula i)) (owed-is i)))
+    let formula = named lent (c .before .step-formula .ensures ∙ ap (stepFormula s) last) in
+    let owed = owes-told lent (c .before .before .before .before .action-of .ensures) (c .before .before .before .agent-of .ensures) (c .before .before .owed-by .ensures) in
+    ap not (c .is-that .ensures ∙ (λ i. isThat (formula i) (owed i)))
 
 pub wrong-end-spec : {M : Type 1} → statement M
 wrong-end-spec =

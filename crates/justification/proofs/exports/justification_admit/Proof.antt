@@ -1,6 +1,6 @@
 -- `justification_admit` meets its contract. Assumes nothing.
 use borrow.Author.Needs.{needs}
-use mathlib.Core.Path.{_≡_, sym, ap, _∙_}
+use mathlib.Core.Path.{sym, ap, _∙_}
 use native.Mathlib.Omega.{arith}
 use Rattle.case_file.specs.Exports.{numbersOf}
 use Rattle.case_file.specs.Meanings.{answerMeant}

@@ -1,6 +1,5 @@
 -- `justification_check` meets its contract: it is `check` in numbers. Assumes nothing.
 use borrow.Author.Needs.{needs}
-use mathlib.Core.Path.{_≡_, sym, ap, _∙_}
 use Rattle.justification.specs.Meanings.{numbersOf}
 use Rattle.justification.proofs.Concluding.{answered-as}
 use Rattle.justification.proofs.exports.justification_check.Statement.{statement}

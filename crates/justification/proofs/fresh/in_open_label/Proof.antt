@@ -7,7 +7,8 @@ use Rattle.formula_book.specs.Formulas.{this-term, has}
 use Rattle.formula_book.specs.Meanings.{soughtMeant}
 use Rattle.formula_book.proofs.Laws.{term-present}
 use Rattle.justification.proofs.Comparing.{good-row}
-use Rattle.justification.proofs.Citing.{parted, named, label-numbered}
+use Rattle.justification.proofs.Lent.{parted}
+use Rattle.justification.proofs.Citing.{named, label-numbered}
 use Rattle.justification.proofs.Freshness.{label-few}
 use Rattle.justification.proofs.fresh.in_open_label.Statement.{statement}
 use Rattle.justification.proofs.fresh.in_open_label.Tie as tie

@@ -2,7 +2,7 @@
 use Prim.Native.Nat.{_-_}
 use mathlib.Core.Path.{sym, _∙_}
 use native.Mathlib.Omega.{arith}
-use Rattle.justification.proofs.Citing.{parted}
+use Rattle.justification.proofs.Lent.{parted}
 use Rattle.justification.proofs.Freshness.{Missing, missing-more, label-found, none-found}
 use Rattle.justification.proofs.fresh.in_open_labels.Statement.{statement}
 use Rattle.justification.proofs.fresh.in_open_labels.Tie as tie

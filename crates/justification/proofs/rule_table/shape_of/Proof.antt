@@ -9,57 +9,6 @@ use Rattle.words.proofs.Tests.{past}
 use Rattle.justification.proofs.rule_table.shape_of.Statement.{statement}
 use Rattle.justification.proofs.rule_table.shape_of.Tie as tie
 
-line-requires : tie.Need-line-requires
-line-requires c κs = search needs
-
-line-requires-2 : tie.Need-line-requires-2
-line-requires-2 c κs = search needs
-
-line-requires-3 : tie.Need-line-requires-3
-line-requires-3 c κs = search needs
-
-line-requires-4 : tie.Need-line-requires-4
-line-requires-4 c κs = search needs
-
-line-requires-5 : tie.Need-line-requires-5
-line-requires-5 c κs = search needs
-
-line-requires-6 : tie.Need-line-requires-6
-line-requires-6 c κs = search needs
-
-line-requires-7 : tie.Need-line-requires-7
-line-requires-7 c κs = search needs
-
-line-requires-8 : tie.Need-line-requires-8
-line-requires-8 c κs = search needs
-
-line-requires-9 : tie.Need-line-requires-9
-line-requires-9 c κs = search needs
-
-line-requires-10 : tie.Need-line-requires-10
-line-requires-10 c κs = search needs
-
-line-requires-11 : tie.Need-line-requires-11
-line-requires-11 c κs = search needs
-
-line-requires-12 : tie.Need-line-requires-12
-line-requires-12 c κs = search needs
-
-line-requires-13 : tie.Need-line-requires-13
-line-requires-13 c κs = search needs
-
-line-requires-14 : tie.Need-line-requires-14
-line-requires-14 c κs = search needs
-
-line-requires-15 : tie.Need-line-requires-15
-line-requires-15 c κs = search needs
-
-line-requires-16 : tie.Need-line-requires-16
-line-requires-16 c κs = search needs
-
-line-requires-17 : tie.Need-line-requires-17
-line-requires-17 c κs = search needs
-
 returns : tie.Need-returns
 unfolding shapeOf ruleShape ruleAt rules rule namesMeant effectMeant
 returns c = c .line .ensures ∙ rw (c .before .match .keys1)
@@ -132,23 +81,23 @@ pub shape-of-spec : {M : Type 1} → statement M
 shape-of-spec =
     tie.close
     (tie.spec
-    line-requires
-    line-requires-2
-    line-requires-3
-    line-requires-4
-    line-requires-5
-    line-requires-6
-    line-requires-7
-    line-requires-8
-    line-requires-9
-    line-requires-10
-    line-requires-11
-    line-requires-12
-    line-requires-13
-    line-requires-14
-    line-requires-15
-    line-requires-16
-    line-requires-17
+    (λ c κs. search needs)
+    (λ c κs. search needs)
+    (λ c κs. search needs)
+    (λ c κs. search needs)
+    (λ c κs. search needs)
+    (λ c κs. search needs)
+    (λ c κs. search needs)
+    (λ c κs. search needs)
+    (λ c κs. search needs)
+    (λ c κs. search needs)
+    (λ c κs. search needs)
+    (λ c κs. search needs)
+    (λ c κs. search needs)
+    (λ c κs. search needs)
+    (λ c κs. search needs)
+    (λ c κs. search needs)
+    (λ c κs. search needs)
     returns
     returns-2
     returns-3

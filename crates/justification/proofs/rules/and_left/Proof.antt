@@ -1,6 +1,6 @@
 -- `and_left` meets its contract: by the kind of the premise. Assumes nothing.
 use Rattle.justification.proofs.Comparing.{readable}
-use Rattle.justification.proofs.Matching.{and-second, not-left, left}
+use Rattle.justification.proofs.Matching.{and-parts, not-left, left}
 use Rattle.justification.proofs.rules.and_left.Statement.{statement}
 use Rattle.justification.proofs.rules.and_left.Tie as tie
 
@@ -16,7 +16,7 @@ is-and-requires : tie.Need-is-and-requires
 is-and-requires c κs =
     let row = c .before .before .row-at in
     let pre = c .before .before .before .before .pre in
-    (pre .1, pre .0, and-second (row .result) (pre .1) (row .ensures) (c .if1 .left))
+    (pre .1, pre .0, and-parts (row .result) (pre .1) (row .ensures) (c .if1 .left) .second)
 
 returns-2 : tie.Need-returns-2
 returns-2 c =

@@ -1,6 +1,6 @@
 -- `and_right` meets its contract: by the kind of the premise. Assumes nothing.
 use Rattle.justification.proofs.Comparing.{readable}
-use Rattle.justification.proofs.Matching.{and-first, not-right, right}
+use Rattle.justification.proofs.Matching.{and-parts, not-right, right}
 use Rattle.justification.proofs.rules.and_right.Statement.{statement}
 use Rattle.justification.proofs.rules.and_right.Tie as tie
 
@@ -16,7 +16,7 @@ is-and-requires : tie.Need-is-and-requires
 is-and-requires c κs =
     let row = c .before .before .row-at in
     let pre = c .before .before .before .before .pre in
-    (pre .1, and-first (row .result) (pre .1) (row .ensures) (c .if1 .left), pre .0)
+    (pre .1, and-parts (row .result) (pre .1) (row .ensures) (c .if1 .left) .first, pre .0)
 
 returns-2 : tie.Need-returns-2
 returns-2 c =

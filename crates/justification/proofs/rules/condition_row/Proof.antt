@@ -1,5 +1,6 @@
 -- `condition_row` meets its contract: no formula has the number that is absent. Assumes nothing.
-use Rattle.justification.proofs.Citing.{parted, certified}
+use Rattle.justification.proofs.Lent.{parted}
+use Rattle.justification.proofs.Citing.{certified}
 use Rattle.justification.proofs.rules.condition_row.Statement.{statement}
 use Rattle.justification.proofs.rules.condition_row.Tie as tie
 

@@ -1,5 +1,6 @@
 -- `duty_by_label` meets its contract: the label's mark and action are the definition's. Assumes nothing.
-use Rattle.justification.proofs.Citing.{parted, label-numbered, done-by-label}
+use Rattle.justification.proofs.Lent.{parted}
+use Rattle.justification.proofs.Citing.{label-numbered, done-by-label}
 use Rattle.justification.proofs.rules.duty_by_label.Statement.{statement}
 use Rattle.justification.proofs.rules.duty_by_label.Tie as tie
 

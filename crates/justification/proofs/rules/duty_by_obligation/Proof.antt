@@ -1,5 +1,6 @@
 -- `duty_by_obligation` meets its contract: the obligation's mark and action are the definition's. Assumes nothing.
-use Rattle.justification.proofs.Citing.{parted, obligation-numbered, done-by-obligation}
+use Rattle.justification.proofs.Lent.{parted}
+use Rattle.justification.proofs.Citing.{obligation-numbered, done-by-obligation}
 use Rattle.justification.proofs.rules.duty_by_obligation.Statement.{statement}
 use Rattle.justification.proofs.rules.duty_by_obligation.Tie as tie
 

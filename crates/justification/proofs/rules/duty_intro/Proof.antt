@@ -1,5 +1,6 @@
 -- `duty_intro` meets its contract: the label's mark and action are the definition's. Assumes nothing.
-use Rattle.justification.proofs.Citing.{parted, label-numbered, introduced}
+use Rattle.justification.proofs.Lent.{parted}
+use Rattle.justification.proofs.Citing.{label-numbered, introduced}
 use Rattle.justification.proofs.rules.duty_intro.Statement.{statement}
 use Rattle.justification.proofs.rules.duty_intro.Tie as tie
 

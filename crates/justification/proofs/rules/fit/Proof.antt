@@ -1,20 +1,26 @@
 -- `fit` meets its contract: the rules by their numbers. Assumes nothing.
 use borrow.Author.Needs.{needs}
-use mathlib.Core.Path.{refl}
+use mathlib.Core.Path.{_≡_, refl}
 use mathlib.Core.Logic.{inl, inr}
+use Rattle.case_file.specs.Case.{caseOf}
 use Rattle.justification.specs.Rules.{rule, rules, ruleAt}
-use Rattle.justification.proofs.SeenRows.{lent-book}
+use Rattle.justification.specs.Turns.{Numbered, citationFault}
 use Rattle.justification.proofs.Sorting.{label-there, condition-there, row-there, names-supposed, names-condition, names-row, premised}
 use Rattle.justification.proofs.Standing.{rule-number, own-numbered, premises-there, cites, refused, refused-none, refused-all}
 use Rattle.justification.proofs.rules.fit.Statement.{statement}
 use Rattle.justification.proofs.rules.fit.Tie as tie
 
+-- The step's formula is of the book, and what it cites is there.
+own : (st : tie.Start) → Numbered (st .args .book .now) (st .args .step .formula)
+own st = own-numbered (st .pre .0 .lent) (st .pre .1 .0) (st .pre .1 .1)
+
+cited : (st : tie.Start) → citationFault (caseOf (st .args .file .now)) (ruleAt (st .args .step .rule) .names) (st .args .step .argument) ≡ 0
+cited st = cites (st .pre .0 .lent) (st .pre .1 .0) (st .pre .1 .1)
+
 suppose-requires : tie.Need-suppose-requires
 suppose-requires c κs =
     let start = c .before .before .before in
-    let lent = lent-book (start .pre .0) in
-    let at = start .pre .1 in
-    ((lent, own-numbered lent (at .0) (at .1)), label-there (start .args .file .now) (start .args .step .argument) (names-supposed (c .match .keys1)) (cites lent (at .0) (at .1)))
+    ((start .pre .0 .lent, own start), label-there _ _ (names-supposed (c .match .keys1)) (cited start))
 
 refusal-requires : tie.Need-refusal-requires
 refusal-requires c κs = search needs
@@ -22,9 +28,7 @@ refusal-requires c κs = search needs
 condition-row-requires : tie.Need-condition-row-requires
 condition-row-requires c κs =
     let start = c .before .before .before in
-    let lent = lent-book (start .pre .0) in
-    let at = start .pre .1 in
-    ((lent, own-numbered lent (at .0) (at .1)), condition-there (start .args .file .now) (start .args .step .argument) (names-condition (c .match .keys2)) (cites lent (at .0) (at .1)))
+    ((start .pre .0 .lent, own start), condition-there _ _ (names-condition (c .match .keys2)) (cited start))
 
 refusal-requires-2 : tie.Need-refusal-requires-2
 refusal-requires-2 c κs = search needs
@@ -32,16 +36,13 @@ refusal-requires-2 c κs = search needs
 seen-row-requires : tie.Need-seen-row-requires
 seen-row-requires c κs =
     let start = c .before .before .before in
-    let lent = lent-book (start .pre .0) in
-    let at = start .pre .1 in
-    ((start .pre .0, own-numbered lent (at .0) (at .1)), row-there (start .args .file .now) (start .args .step .argument) (names-row (c .match .keys3)) (cites lent (at .0) (at .1)))
+    ((start .pre .0, own start), row-there _ _ (names-row (c .match .keys3)) (cited start))
 
 owner-requires : tie.Need-owner-requires
 owner-requires c κs =
     let start = c .before .before .before in
-    let lent = lent-book (start .pre .0) in
-    let at = start .pre .1 in
-    ((lent, premises-there lent (at .0) (at .1)), own-numbered lent (at .0) (at .1))
+    let lent = start .pre .0 .lent in
+    ((lent, premises-there lent (start .pre .1 .0) (start .pre .1 .1)), own start)
 
 refusal-requires-3 : tie.Need-refusal-requires-3
 refusal-requires-3 c κs = search needs
@@ -49,7 +50,7 @@ refusal-requires-3 c κs = search needs
 from-premises-requires : tie.Need-from-premises-requires
 from-premises-requires c κs =
     let start = c .before .before .before in
-    let lent = lent-book (start .pre .0) in
+    let lent = start .pre .0 .lent in
     let at = start .pre .1 in
     let m = c .match .rest in
     (lent, (at, premised (start .args .step .rule) (rule-number lent (at .0) (at .1)) (m .0 .0 .0 .1) (m .0 .0 .1) (m .0 .1) (m .1)))
@@ -61,30 +62,30 @@ returns : tie.Need-returns
 unfolding rule rules ruleAt
 returns c =
     let pre = c .before .before .before .before .before .pre in
-    refused-none (lent-book (pre .0)) (pre .1 .0) (pre .1 .1) 0 (c .before .before .match .keys1) (inl refl) (c .before .suppose .result) (c .before .suppose .ensures) (c .refusal .ensures)
+    refused-none (pre .0 .lent) (pre .1 .0) (pre .1 .1) 0 (c .before .before .match .keys1) (inl refl) (c .before .suppose .result) (c .before .suppose .ensures) (c .refusal .ensures)
 
 returns-2 : tie.Need-returns-2
 unfolding rule rules ruleAt
 returns-2 c =
     let pre = c .before .before .before .before .before .pre in
-    refused-none (lent-book (pre .0)) (pre .1 .0) (pre .1 .1) 1 (c .before .before .match .keys2) (inr (inl refl)) (c .before .condition-row .result) (c .before .condition-row .ensures) (c .refusal2 .ensures)
+    refused-none (pre .0 .lent) (pre .1 .0) (pre .1 .1) 1 (c .before .before .match .keys2) (inr (inl refl)) (c .before .condition-row .result) (c .before .condition-row .ensures) (c .refusal2 .ensures)
 
 returns-3 : tie.Need-returns-3
 unfolding rule rules ruleAt
 returns-3 c =
     let pre = c .before .before .before .before .pre in
-    refused-none (lent-book (pre .0)) (pre .1 .0) (pre .1 .1) 2 (c .before .match .keys3) (inr (inr refl)) _ refl (c .seen-row .ensures)
+    refused-none (pre .0 .lent) (pre .1 .0) (pre .1 .1) 2 (c .before .match .keys3) (inr (inr refl)) _ refl (c .seen-row .ensures)
 
 returns-4 : tie.Need-returns-4
 unfolding rule rules ruleAt
 returns-4 c =
     let pre = c .before .before .before .before .before .pre in
-    refused-all (lent-book (pre .0)) (pre .1 .0) (pre .1 .1) 5 (c .before .before .match .keys4) (c .before .owner .result) (c .before .owner .ensures _) (c .refusal3 .ensures)
+    refused-all (pre .0 .lent) (pre .1 .0) (pre .1 .1) 5 (c .before .before .match .keys4) (c .before .owner .result) (c .before .owner .ensures _) (c .refusal3 .ensures)
 
 returns-5 : tie.Need-returns-5
 returns-5 c =
     let pre = c .before .before .before .before .before .pre in
-    refused (lent-book (pre .0)) (pre .1 .0) (pre .1 .1) (c .before .from-premises .result) (c .before .from-premises .ensures) (c .refusal4 .ensures)
+    refused (pre .0 .lent) (pre .1 .0) (pre .1 .1) (c .before .from-premises .result) (c .before .from-premises .ensures) (c .refusal4 .ensures)
 
 pub fit-spec : {M : Type 1} → statement M
 fit-spec =

@@ -1,6 +1,7 @@
 -- `from_premises` meets its contract: a rule with premises has one or two, and those with one have an argument or none. Assumes nothing.
 use borrow.Author.Needs.{needs}
-use Rattle.justification.proofs.Citing.{parted, numbered}
+use Rattle.justification.proofs.Lent.{parted}
+use Rattle.justification.proofs.Citing.{numbered}
 use Rattle.justification.proofs.Sorting.{no-argument, an-argument}
 use Rattle.justification.proofs.Standing.{own-numbered, first-premise, second-premise, by-two, by-one, cites, fits-one, fits-two}
 use Rattle.justification.proofs.rules.from_premises.Statement.{statement}

@@ -1,5 +1,6 @@
 -- `implies_intro` meets its contract: by the label's mark, and its formula. Assumes nothing.
-use Rattle.justification.proofs.Citing.{parted, label-numbered, implied, not-implied}
+use Rattle.justification.proofs.Lent.{parted}
+use Rattle.justification.proofs.Citing.{label-numbered, implied, not-implied}
 use Rattle.justification.proofs.rules.implies_intro.Statement.{statement}
 use Rattle.justification.proofs.rules.implies_intro.Tie as tie
 

@@ -4,7 +4,7 @@ use Rattle.formula_book.specs.Formulas.{isPolicy}
 use Rattle.formula_book.specs.Meanings.{soughtMeant}
 use Rattle.formula_book.proofs.Laws.{data-variable-present}
 use Rattle.justification.proofs.Comparing.{good-row, readable}
-use Rattle.justification.proofs.Citing.{parted}
+use Rattle.justification.proofs.Lent.{parted}
 use Rattle.justification.proofs.Matching.{says-tree, says-body}
 use Rattle.justification.proofs.Owning.{no-grant, not-by-agent, has-variable, owner-by}
 use Rattle.justification.proofs.rules.owner.Statement.{statement}

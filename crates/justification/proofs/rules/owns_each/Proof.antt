@@ -4,7 +4,8 @@ use mathlib.Core.Path.{_≡_}
 use native.Mathlib.Omega.{arith}
 use Rattle.words.proofs.Tests.{fails, holds}
 use Rattle.justification.specs.Fitting.{PremiseThere}
-use Rattle.justification.proofs.Citing.{parted, numbered}
+use Rattle.justification.proofs.Lent.{parted}
+use Rattle.justification.proofs.Citing.{numbered}
 use Rattle.justification.proofs.Owning.{compared, premise-few, Owned, owned-more, all-owned, other-found}
 use Rattle.justification.proofs.rules.owns_each.Statement.{statement}
 use Rattle.justification.proofs.rules.owns_each.Tie as tie

@@ -1,7 +1,7 @@
 -- `refine` meets its contract: by the kinds of the first premise and of the formula. Assumes nothing.
 use Rattle.justification.proofs.Comparing.{readable}
-use Rattle.justification.proofs.Citing.{parted}
-use Rattle.justification.proofs.Matching.{implies-first, implies-second, no-premise, not-refined, refined, unrefined}
+use Rattle.justification.proofs.Lent.{parted}
+use Rattle.justification.proofs.Matching.{implies-parts, no-premise, not-refined, refined, unrefined}
 use Rattle.justification.proofs.rules.refine.Statement.{statement}
 use Rattle.justification.proofs.rules.refine.Tie as tie
 
@@ -30,13 +30,13 @@ is-says-requires : tie.Need-is-says-requires
 is-says-requires c κs =
     let premise = c .before .before .before .before .before .before .row-at in
     let pre = c .before .before .before .before .before .before .before .before .before .pre in
-    (pre .3, implies-first (premise .result) (pre .2) (premise .ensures) (c .before .before .before .before .if1 .left))
+    (pre .3, implies-parts (premise .result) (pre .2) (premise .ensures) (c .before .before .before .before .if1 .left) .first)
 
 is-says-requires-2 : tie.Need-is-says-requires-2
 is-says-requires-2 c κs =
     let premise = c .before .before .before .before .before .before .before .before .row-at in
     let pre = c .before .before .before .before .before .before .before .before .before .before .before .pre in
-    (pre .1, implies-second (premise .result) (pre .2) (premise .ensures) (c .before .before .before .before .before .before .if1 .left))
+    (pre .1, implies-parts (premise .result) (pre .2) (premise .ensures) (c .before .before .before .before .before .before .if1 .left) .second)
 
 returns-3 : tie.Need-returns-3
 returns-3 c =

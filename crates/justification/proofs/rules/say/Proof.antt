@@ -1,7 +1,7 @@
 -- `say` meets its contract: by the kind of the premise. Assumes nothing.
 use borrow.Author.Needs.{needs}
 use Rattle.justification.proofs.Comparing.{readable}
-use Rattle.justification.proofs.Citing.{parted}
+use Rattle.justification.proofs.Lent.{parted}
 use Rattle.justification.proofs.Matching.{not-said, said}
 use Rattle.justification.proofs.rules.say.Statement.{statement}
 use Rattle.justification.proofs.rules.say.Tie as tie

@@ -12,8 +12,8 @@ use Rattle.case_file.specs.Meanings.{viewMeant}
 use Rattle.case_file.specs.declared.log.View.the-variants.{Shows}
 use Rattle.justification.specs.Rules.{isThat, seenRow}
 use Rattle.justification.specs.Policies.{policyMeant}
-use Rattle.justification.proofs.Citing.{parted}
-use Rattle.justification.proofs.SeenRows.{lent-book, row-few, shown-numbered, seen-policy, unseen}
+use Rattle.justification.proofs.Lent.{parted}
+use Rattle.justification.proofs.SeenRows.{row-few, shown-numbered, seen-policy, unseen}
 use Rattle.justification.proofs.rules.seen_row.Statement.{statement}
 use Rattle.justification.proofs.rules.seen_row.Tie as tie
 
@@ -50,7 +50,7 @@ returns c =
     rw (unseen (start .pre .0 .0) (start .args .row) (start .pre .1) (c .before .view-at .result) (c .before .view-at .ensures) (c .match .keys2) _)
 
 agent-of-requires : tie.Need-agent-of-requires
-agent-of-requires c κs = parted (lent-book (c .before .before .before .before .before .before .pre .0 .0))
+agent-of-requires c κs = parted (c .before .before .before .before .before .before .pre .0 .0 .lent)
 
 cast-conclusion-of : tie.Need-cast-conclusion-of
 cast-conclusion-of c = search needs

@@ -1,5 +1,6 @@
 -- `suppose` meets its contract: by the label's mark, and its formula's number. Assumes nothing.
-use Rattle.justification.proofs.Citing.{parted, supposed, not-supposed}
+use Rattle.justification.proofs.Lent.{parted}
+use Rattle.justification.proofs.Citing.{supposed, not-supposed}
 use Rattle.justification.proofs.rules.suppose.Statement.{statement}
 use Rattle.justification.proofs.rules.suppose.Tie as tie
 

@@ -1,14 +1,14 @@
 -- `judge` meets its contract: the branches are checks 12 to 19, in order. Assumes nothing.
 use borrow.Author.Needs.{needs}
-use mathlib.Core.Path.{_≡_, refl, sym, ap, _∙_}
+use mathlib.Core.Path.{_≡_, refl, sym, _∙_}
 use mathlib.Core.Bool.{false}
 use native.Mathlib.Omega.{arith}
 use Rattle.case_file.specs.Records.{stepArgument}
 use Rattle.case_file.specs.Case.{caseOf}
 use Rattle.justification.specs.Steps.{ruleOf, misshapen}
 use Rattle.justification.specs.Turns.{shapeOf, ruleShape, citationFault}
-use Rattle.justification.specs.Meanings.{namesMeant, shapeMeant}
-use Rattle.justification.proofs.Lent.{lent-parted, lent-booked, steps-few}
+use Rattle.justification.specs.Meanings.{shapeMeant}
+use Rattle.justification.proofs.Lent.{parted, booked, steps-few}
 use Rattle.justification.proofs.Standing.{shaped}
 use Rattle.justification.proofs.Judging.{judged-12, judged-13, judged-missing, judged-use, premises-below, standing}
 use Rattle.justification.proofs.run.judge.Statement.{statement}
@@ -31,7 +31,7 @@ cites c =
     c .citation-fault .ensures ∙ (λ i. citationFault (caseOf (st .args .file .now)) (st .pre .1 .1 .0 .1 i .names) (st .pre .1 .1 .0 .0 .argument i))
 
 misshapen-requires : tie.Need-misshapen-requires
-misshapen-requires c κs = let pre = c .before .before .pre in ((lent-parted (pre .0 .0), pre .1 .0 .0), (lent-booked (pre .0 .0), pre .1 .1 .0))
+misshapen-requires c κs = let pre = c .before .before .pre in ((parted (pre .0 .0 .lent), pre .1 .0 .0), (booked (pre .0 .0 .lent), pre .1 .1 .0))
 
 refused-requires : tie.Need-refused-requires
 refused-requires c κs = search needs
@@ -52,7 +52,7 @@ take-premises-requires c κs =
     let s = st .args .file .now in
     let is = pre .1 .1 .0 .0 in
     let within = shaped s (st .args .k) (sym (c .before .before .before .before .misshapen .ensures) ∙ c .before .before .before .if1 .left) .span in
-    ((lent-parted (pre .0 .0), omega (arith, within, is .from, is .len)), (omega (arith, pre .1 .0 .0, steps-few s (lent-parted (pre .0 .0))), pre .1 .1 .1 .1))
+    ((parted (pre .0 .0 .lent), omega (arith, within, is .from, is .len)), (omega (arith, pre .1 .0 .0, steps-few s (parted (pre .0 .0 .lent))), pre .1 .1 .1 .1))
 
 refused-requires-2 : tie.Need-refused-requires-2
 refused-requires-2 c κs = search needs
@@ -84,7 +84,7 @@ open-above-requires c κs =
     let is = pre .1 .1 .0 .0 in
     let within = shaped s (st .args .k) (fine t) .span in
     let below = premises-below _ _ (st .args .opens .now) _ (st .args .discharged .now) _ _ _ _ (fine t) (is .from) (is .len) (t .take-premises .ensures) (c .before .before .if2 .left) in
-    ((lent-parted (pre .0 .0), omega (arith, within, is .from, is .len)), ((λ j up lt. omega (arith, below j up lt, pre .1 .0 .0, steps-few s (lent-parted (pre .0 .0))), pre .1 .1 .1 .0), pre .0 .1))
+    ((parted (pre .0 .0 .lent), omega (arith, within, is .from, is .len)), ((λ j up lt. omega (arith, below j up lt, pre .1 .0 .0, steps-few s (parted (pre .0 .0 .lent))), pre .1 .1 .1 .0), pre .0 .1))
 
 use-fault-requires : tie.Need-use-fault-requires
 use-fault-requires c κs =

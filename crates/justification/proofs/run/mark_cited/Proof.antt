@@ -1,12 +1,11 @@
 -- `mark_cited` meets its contract. Assumes nothing.
 use borrow.Author.Needs.{needs}
-use lib.ListN.{set, length-set}
+use lib.ListN.{length-set}
 use mathlib.Core.Path.{_∙_}
 use mathlib.Core.Bool.{true}
 use Rattle.justification.specs.Steps.{markIf, isARow, isAnObligation}
 use Rattle.justification.specs.Meanings.{namesMeant}
 use Rattle.tables.proofs.Assigning.{marks-set}
-use native.Mathlib.Omega.{arith}
 use Rattle.justification.proofs.run.mark_cited.Statement.{statement}
 use Rattle.justification.proofs.run.mark_cited.Tie as tie
 

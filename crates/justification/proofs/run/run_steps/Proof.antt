@@ -2,7 +2,7 @@
 use Prim.Native.Nat.{_-_}
 use native.Mathlib.Omega.{arith}
 use Rattle.justification.specs.Tables.{stateOf}
-use Rattle.justification.proofs.Lent.{lent-parted, steps-few}
+use Rattle.justification.proofs.Lent.{parted, steps-few}
 use Rattle.justification.proofs.Running.{Turn, turn-start, turn-end, turn-refused, turn-next}
 use Rattle.justification.proofs.run.run_steps.Statement.{statement}
 use Rattle.justification.proofs.run.run_steps.Tie as tie
@@ -14,10 +14,10 @@ abbrev μ-loop : tie.MeasureT-loop
 μ-loop file book views opens₀ used₀ cited₀ discharged₀ each-use n k₀ opens used cited discharged k = n - k
 
 each-use-labels-requires : tie.Need-each-use-labels-requires Inv-loop μ-loop
-each-use-labels-requires c κs = lent-parted (c .before .before .pre .0)
+each-use-labels-requires c κs = parted (c .before .before .pre .0 .lent)
 
 count-of-requires : tie.Need-count-of-requires Inv-loop μ-loop
-count-of-requires c κs = (lent-parted (c .before .before .before .pre .0), omega arith)
+count-of-requires c κs = (parted (c .before .before .before .pre .0 .lent), omega arith)
 
 loop-holds : tie.Need-loop-holds Inv-loop μ-loop
 loop-holds c = turn-start _ _ _ _ _ _ (c .count-of .ensures .0) (c .before .before .before .before .pre .1)
@@ -31,7 +31,7 @@ step-requires c κs =
 cast-t17 : tie.Need-cast-t17 Inv-loop μ-loop
 cast-t17 c =
     let st = c .before .before .before .before .before .before .before .before .before .before .before .before in
-    omega (arith, c .before .before .before .before .before .before .loop-test .taken, c .before .before .before .before .before .before .before .loop .inv .all, steps-few _ (lent-parted (st .pre .0)))
+    omega (arith, c .before .before .before .before .before .before .loop-test .taken, c .before .before .before .before .before .before .before .loop .inv .all, steps-few _ (parted (st .pre .0 .lent)))
 
 returns : tie.Need-returns Inv-loop μ-loop
 returns c =
@@ -41,7 +41,7 @@ returns c =
 add-k : tie.Need-add-k Inv-loop μ-loop
 add-k c =
     let st = c .before .before .before .before .before .before .before .before .before .before .before .before in
-    omega (arith, c .before .before .before .before .before .before .loop-test .taken, c .before .before .before .before .before .before .before .loop .inv .all, steps-few _ (lent-parted (st .pre .0)))
+    omega (arith, c .before .before .before .before .before .before .loop-test .taken, c .before .before .before .before .before .before .before .loop .inv .all, steps-few _ (parted (st .pre .0 .lent)))
 
 loop-less : tie.Need-loop-less Inv-loop μ-loop
 loop-less c = omega (arith, c .before .before .before .before .before .before .loop-test .taken)
@@ -50,7 +50,7 @@ loop-again : tie.Need-loop-again Inv-loop μ-loop
 loop-again c =
     let st = c .before .before .before .before .before .before .before .before .before .before .before .before in
     let l = c .before .before .before .before .before .before .before .loop in
-    turn-next _ _ _ _ _ _ _ _ (l .inv) (c .before .before .before .before .before .before .loop-test .taken) _ _ _ _ _ (c .before .step .ensures) _ _ (st .pre .0) (c .if1 .left)
+    turn-next _ _ _ _ _ _ _ _ (l .inv) (c .before .before .before .before .before .before .loop-test .taken) _ _ _ _ _ (c .before .step .ensures) (st .pre .0 .lent) (c .if1 .left)
 
 returns-2 : tie.Need-returns-2 Inv-loop μ-loop
 returns-2 c = let l = c .before .loop in turn-end _ _ _ _ _ _ _ _ (l .inv) (omega (arith, c .loop-test .left))

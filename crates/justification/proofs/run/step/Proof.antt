@@ -8,7 +8,7 @@ use Rattle.justification.specs.Rules.{ruleAt}
 use Rattle.justification.specs.Steps.{ruleOf}
 use Rattle.justification.specs.Turns.{shapeOf, ruleShape, citationFault}
 use Rattle.justification.specs.Meanings.{namesMeant, effectMeant, shapeMeant}
-use Rattle.justification.proofs.Lent.{lent-parted, steps-few}
+use Rattle.justification.proofs.Lent.{parted, steps-few}
 use Rattle.justification.proofs.Stepping.{entries-there, cited-there, label-there-as, cited-there-as}
 use Rattle.justification.proofs.Judging.{no-fault, stepped-refused, stepped-accepted}
 use Rattle.justification.proofs.run.step.Statement.{statement}
@@ -38,7 +38,7 @@ there c =
     no-fault (st .args .file .now) (st .args .k) _ (sym (j .judge .ensures .is (st .args .cited .now)) ∙ c .if1 .left) .2
 
 step-at-requires : tie.Need-step-at-requires
-step-at-requires c κs = let pre = c .before .before .pre in (lent-parted (pre .0 .0), pre .1 .0 .0)
+step-at-requires c κs = let pre = c .before .before .pre in (parted (pre .0 .0 .lent), pre .1 .0 .0)
 
 shape-of-requires : tie.Need-shape-of-requires
 shape-of-requires c κs = search needs
@@ -63,13 +63,13 @@ leaves-requires c κs =
     let st = begin (c .before .before) in
     let s = st .args .file .now in
     let step = c .before .before .before .before .before .before .before .step-at .ensures in
-    label-there-as _ _ _ _ (effect-is (c .before .before)) (step .argument) (entries-there s (lent-parted (st .pre .0 .0)) (stepArgument s (st .args .k)) (stepRule s (st .args .k)) (there c) .label)
+    label-there-as _ _ _ _ (effect-is (c .before .before)) (step .argument) (entries-there s (parted (st .pre .0 .0 .lent)) (stepArgument s (st .args .k)) (stepRule s (st .args .k)) (there c) .label)
 
 mul-opens : tie.Need-mul-opens
-mul-opens c = let st = c .before .before .before .before .before .before .before .before .before .before .before in omega (arith, st .pre .1 .0 .0, steps-few _ (lent-parted (st .pre .0 .0)))
+mul-opens c = let st = c .before .before .before .before .before .before .before .before .before .before .before in omega (arith, st .pre .1 .0 .0, steps-few _ (parted (st .pre .0 .0 .lent)))
 
 element-write-opens : tie.Need-element-write-opens
-element-write-opens c = let st = c .before .before .before .before .before .before .before .before .before .before .before in omega (arith, st .pre .1 .0 .0, steps-few _ (lent-parted (st .pre .0 .0)))
+element-write-opens c = let st = c .before .before .before .before .before .before .before .before .before .before .before in omega (arith, st .pre .1 .0 .0, steps-few _ (parted (st .pre .0 .0 .lent)))
 
 mark-cited-requires : tie.Need-mark-cited-requires
 unfolding caseOf ruleOf
@@ -78,7 +78,7 @@ mark-cited-requires c κs =
     let st = begin (e .before .before) in
     let s = st .args .file .now in
     let step = c .before .before .before .before .before .before .before .before .before .before .step-at .ensures in
-    (st .pre .1 .1 .cited, st .pre .1 .1 .discharged, cited-there-as _ _ _ _ (names-is (e .before .before)) (step .argument) (cited-there s (lent-parted (st .pre .0 .0)) (stepArgument s (st .args .k)) _ (there e)))
+    (st .pre .1 .1 .cited, st .pre .1 .1 .discharged, cited-there-as _ _ _ _ (names-is (e .before .before)) (step .argument) (cited-there s (parted (st .pre .0 .0 .lent)) (stepArgument s (st .args .k)) _ (there e)))
 
 returns-2 : tie.Need-returns-2
 returns-2 c =
@@ -86,7 +86,7 @@ returns-2 c =
     let j = e .before .before in
     let st = begin j in
     stepped-accepted _ _ _ _ _ _ (j .judge .result) _ (j .judge .ensures) (st .pre .1 .1) _ _ _ _ _ _ (names-is j) (effect-is j) (j .before .before .before .before .before .step-at .ensures .argument)
-    (e .if1 .left) (omega (arith, st .pre .1 .0 .0, steps-few _ (lent-parted (st .pre .0 .0)))) (c .before .before .before .leaves .ensures) (c .mark-cited .ensures)
+    (e .if1 .left) (omega (arith, st .pre .1 .0 .0, steps-few _ (parted (st .pre .0 .0 .lent)))) (c .before .before .before .leaves .ensures) (c .mark-cited .ensures)
 
 pub step-spec : {M : Type 1} → statement M
 step-spec =

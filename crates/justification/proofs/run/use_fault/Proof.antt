@@ -1,11 +1,11 @@
 -- `use_fault` meets its contract: the branches are checks 17 to 19, in order. Assumes nothing.
 use borrow.Author.Needs.{needs}
-use mathlib.Core.Path.{_≡_, sym, ap, _∙_}
+use mathlib.Core.Path.{_≡_, sym, _∙_}
 use Rattle.case_file.specs.Case.{caseOf}
 use Rattle.justification.specs.Steps.{ruleOf, misfit}
 use Rattle.tables.specs.Sets.{labelsOf, marks}
 use Rattle.justification.specs.Turns.{shapeOf, twiceUsed, staleTerm, useFault}
-use Rattle.justification.proofs.Lent.{lent-parted}
+use Rattle.justification.proofs.Lent.{parted}
 use Rattle.justification.proofs.Stepping.{entries-there, fit-fails, fit-holds}
 use Rattle.justification.proofs.run.use_fault.Statement.{statement}
 use Rattle.justification.proofs.run.use_fault.Tie as tie
@@ -30,8 +30,8 @@ used-twice-requires c κs =
     let st = c .before .before in
     let pre = st .pre in
     let s = st .args .file .now in
-    let there = entries-there s (lent-parted (pre .0 .0)) _ _ (pre .1 .0 .0 .cites) in
-    ((lent-parted (pre .0 .0), pre .0 .1), (rw (pre .1 .1 .0, pre .1 .0 .1 .argument) there, pre .1 .1 .1))
+    let there = entries-there s (parted (pre .0 .0 .lent)) _ _ (pre .1 .0 .0 .cites) in
+    ((parted (pre .0 .0 .lent), pre .0 .1), (rw (pre .1 .1 .0, pre .1 .0 .1 .argument) there, pre .1 .1 .1))
 
 returns : tie.Need-returns
 unfolding useFault caseOf start
@@ -48,7 +48,7 @@ returns-2 c =
     (fit-fails (misfit (caseOf (st .args .file .now)) (st .args .k)) _ _ (c .before .fit .ensures) (c .if2 .taken))
 
 not-fresh-requires : tie.Need-not-fresh-requires
-not-fresh-requires c κs = let pre = c .before .before .before .before .before .before .before .pre in (record { admitted = pre .0 .0 .admitted; book = pre .0 .0 .book }, pre .1 .0)
+not-fresh-requires c κs = let pre = c .before .before .before .before .before .before .before .pre in (pre .0 .0 .lent, pre .1 .0)
 
 returns-3 : tie.Need-returns-3
 unfolding useFault caseOf start staleTerm

@@ -1,8 +1,8 @@
 -- `discharged_before` meets its contract. Assumes nothing.
 use borrow.Author.Needs.{needs}
-use mathlib.Core.Path.{refl, sym, ap, _∙_}
+use mathlib.Core.Path.{ap}
 use native.Mathlib.Omega.{arith}
-use borrow.Author.Tests.{eq-eqb, ne-eqb}
+use borrow.Author.Tests.{ne-eqb}
 use Rattle.justification.specs.Steps.{isAnObligation}
 use Rattle.tables.specs.Sets.{marks}
 use Rattle.justification.specs.Meanings.{namesMeant}

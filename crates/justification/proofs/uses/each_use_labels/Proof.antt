@@ -1,6 +1,6 @@
 -- `each_use_labels` meets its contract. The loop's invariant: the set has the each-use labels below `l`. Assumes nothing.
 use Prim.Native.Nat.{ℕ, _-_, _≤_}
-use mathlib.Core.Path.{_≡_, sym, ap, _∙_}
+use mathlib.Core.Path.{_≡_, ap, _∙_}
 use mathlib.Core.List.{List}
 use native.Mathlib.Omega.{arith}
 use Rattle.case_file.specs.Layout.{label-part, count}

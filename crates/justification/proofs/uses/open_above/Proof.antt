@@ -1,10 +1,9 @@
 -- `open_above` meets its contract. The loop's invariant: `above` is of the premises from `j` on. Assumes nothing.
 use borrow.Author.Needs.{needs}
 use Prim.Native.Nat.{ℕ, _+_, _-_, _≤_}
-use mathlib.Core.Path.{_≡_, refl, sym, ap, _∙_}
+use mathlib.Core.Path.{_≡_, refl}
 use mathlib.Core.List.{List}
 use native.Mathlib.Omega.{arith}
-use Rattle.case_file.specs.Records.{premiseStep}
 use Rattle.justification.specs.Turns.{IsAbove}
 use Rattle.justification.specs.declared.uses.Above.{Above}
 use Rattle.justification.proofs.Lent.{labels-few, premises-few}

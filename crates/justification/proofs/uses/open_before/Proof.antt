@@ -1,8 +1,6 @@
 -- `open_before` meets its contract. Assumes nothing.
 use borrow.Author.Needs.{needs}
-use mathlib.Core.Path.{sym, ap, _∙_}
 use Rattle.justification.specs.Steps.{isAdding}
-use Rattle.justification.specs.Turns.{LabelThere}
 use Rattle.justification.specs.Meanings.{effectMeant}
 use Rattle.justification.proofs.uses.open_before.Statement.{statement}
 use Rattle.justification.proofs.uses.open_before.Tie as tie

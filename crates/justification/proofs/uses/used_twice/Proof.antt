@@ -1,5 +1,5 @@
 -- `used_twice` meets its contract: the branches are its three tests, in order. Assumes nothing.
-use mathlib.Core.Path.{sym, ap, _∙_}
+use mathlib.Core.Path.{_∙_}
 use mathlib.Core.Bool.{or-true}
 use Rattle.case_file.specs.Case.{caseOf}
 use Rattle.justification.specs.Steps.{isAdding, isEachUse}

@@ -1,6 +1,6 @@
 -- `Above::with` meets its contract. Assumes nothing.
 use borrow.Author.Needs.{needs}
-use mathlib.Core.Path.{refl, sym, _∙_}
+use mathlib.Core.Path.{sym, _∙_}
 use Rattle.justification.proofs.uses.Above.with.Statement.{statement}
 use Rattle.justification.proofs.uses.Above.with.Tie as tie
 
