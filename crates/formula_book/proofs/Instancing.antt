@@ -23,7 +23,7 @@ use Rattle.formula_book.proofs.Classes.{of-absent}
 use Rattle.formula_book.proofs.Same.{same-is, same-true}
 use Rattle.formula_book.proofs.Trees.{Below, Shape, predicate-row, owns-row, says-row, and-row, for-all-row, implies-row, each-use-row, once-row, communicates-row, creates-row, user-action-row, row-shape}
 use Rattle.formula_book.proofs.OneNumber.{fieldsOf, fields}
-use Rattle.formula_book.proofs.Walking.{Children, children, InAction, IsNode, in-action, go-on, calls, said-child, pair-first, pair-second, body-child, duty-first, duty-second}
+use Rattle.formula_book.proofs.Walking.{Children, children, InAction, IsNode, in-action, go-on, said-child, pair-first, pair-second, body-child, duty-first, duty-second}
 
 -- Trees with the same head are equal where their parts are.
 
@@ -182,9 +182,8 @@ common q r {n} e is = go (eqb (q .kind) (r .kind) && eqb (q .code) (r .code)) re
     go true h = (rw h at e, eqb-true (q .kind) (r .kind) (and-true (eqb (q .kind) (r .kind)) (eqb (q .code) (r .code)) h .0))
     go false h = let z : no-node ≡ n = rw h at e in absurd (rw (← z) at is)
 
--- An arm of the walk, whose measure is t: the two rows that it is at, and their common node.
-pub record Arm (is : Formula → Bool) (t : ℕ) (s : List ℕ) (from row depth : ℕ) (r : rows.Row) (n : Node) : Type 0 where
-  pub measure : from ≡ t
+-- An arm of the walk: the two rows that it is at, the second as it was read, and their common node.
+pub record Arm (is : Formula → Bool) (s : List ℕ) (from row depth : ℕ) (r : rows.Row) (n : Node) : Type 0 where
   pub first : WalkRow is s from depth
   pub second : WalkRow is s row depth
   pub other : rowMeant r ≡ rowAt s row
@@ -192,13 +191,12 @@ pub record Arm (is : Formula → Bool) (t : ℕ) (s : List ℕ) (from row depth 
 
 -- An arm, from what the code has read.
 pub in-arm :
-    {is : Formula → Bool} {t : ℕ} {s : List ℕ} {from row depth : ℕ} → (from ≡ t) × (WalkRow is s from depth × WalkRow is s row depth) →
+    {is : Formula → Bool} {s : List ℕ} {from row depth : ℕ} → WalkRow is s from depth → WalkRow is s row depth →
     (q r : rows.Row) {n m : nodes.Node} → rowMeant q ≡ rowAt s from → rowMeant r ≡ rowAt s row →
-    nodeMeant n ≡ commonNode (rowMeant q) (rowMeant r) → n ≡ m → Arm is t s from row depth r (nodeMeant m)
-in-arm pre q r {n} {m} e f c p =
-    record { measure = pre .0; first = pre .1 .0; second = pre .1 .1; other = f; node = rw (← e, ← f) (sym c ∙ ap nodeMeant p) }
+    nodeMeant n ≡ commonNode (rowMeant q) (rowMeant r) → n ≡ m → Arm is s from row depth r (nodeMeant m)
+in-arm g h q r {n} {m} e f c p = record { first = g; second = h; other = f; node = rw (← e, ← f) (sym c ∙ ap nodeMeant p) }
 
-module _ {is : Formula → Bool} {t : ℕ} {s : List ℕ} {from row depth : ℕ} {r : rows.Row} {n : Node} (a : Arm is t s from row depth r n) where
+module _ {is : Formula → Bool} {s : List ℕ} {from row depth : ℕ} {r : rows.Row} {n : Node} (a : Arm is s from row depth r n) where
   pub answer : (σ : Sort) (u : ℕ) → same (treeIn (book s) row) (put σ u depth (treeIn (book s) from)) ≡ instNode σ u depth (book s) (rowMeant r) n
   answer σ u =
       let g = a .first in
@@ -214,41 +212,57 @@ module _ {is : Formula → Bool} {t : ℕ} {s : List ℕ} {from row depth : ℕ}
       let c = common (rowAt s from) (rowAt s row) (a .node) i in
       rw (a .other) (children (a .second) (like-node (rowAt s from) (rowAt s row) (c .1) ∙ ap (like (rowAt s row)) (c .0)))
 
-  -- what a walk's next call requires: the first row falls, and both children may be walked
-  calls-both :
+  -- the walk may go on to both children, and the first row falls
+  both :
       {js : Formula → Bool} {x y : ℕ} (d : ℕ) → d ≤ depth + 1 → Below js (book s) from x → Below js (book s) row y →
-      (x < t) × (WalkRow js s x d × WalkRow js s y d)
-  calls-both d le b c = calls (a .first) d (a .measure) le b (go-on (a .second) d le c)
+      (x < from) × (WalkRow js s x d × WalkRow js s y d)
+  both d le b c = (b .lower, (go-on (a .first) d le b, go-on (a .second) d le c))
 
 -- An action has no other node than a leaf or what is communicated.
-pub arm-of-action :
-    {t : ℕ} {s : List ℕ} {from row depth : ℕ} {r : rows.Row} {n : Node} → Arm isAction t s from row depth r n → IsNode n → InAction n
+pub arm-of-action : {s : List ℕ} {from row depth : ℕ} {r : rows.Row} {n : Node} → Arm isAction s from row depth r n → IsNode n → InAction n
 arm-of-action {s = s} {from = from} {row = row} a i = in-action (a .first) (a .first .kind) (common (rowAt s from) (rowAt s row) (a .node) i .0)
 
--- The next calls, one by one.
-module _ {is : Formula → Bool} {t : ℕ} {s : List ℕ} {from row depth : ℕ} {r : rows.Row} {x y z : ℕ} where
-  pub calls-said : Arm is t s from row depth r (said x y z) → (y < t) × (WalkRow isPolicy s y depth × WalkRow isPolicy s (r .y) depth)
+-- The children of both, one by one.
+module _ {is : Formula → Bool} {s : List ℕ} {from row depth : ℕ} {r : rows.Row} where
+  pub said-both : {x y z : ℕ} → Arm is s from row depth r (said x y z) → (y < from) × (WalkRow isPolicy s y depth × WalkRow isPolicy s (r .y) depth)
   unfolding like rowMeant
-  calls-said a = calls-both a depth (omega arith) (said-child (first-children a tt)) (said-child (second-children a tt))
+  said-both a = both a depth (omega arith) (said-child (first-children a tt)) (said-child (second-children a tt))
 
-module _ {is : Formula → Bool} {t : ℕ} {s : List ℕ} {from row depth : ℕ} {r : rows.Row} {x y : ℕ} where
-  pub calls-first : Arm is t s from row depth r (pair x y) → (x < t) × (WalkRow isPolicy s x depth × WalkRow isPolicy s (r .x) depth)
+  pub first-both : {x y : ℕ} → Arm is s from row depth r (pair x y) → (x < from) × (WalkRow isPolicy s x depth × WalkRow isPolicy s (r .x) depth)
   unfolding like rowMeant
-  calls-first a = calls-both a depth (omega arith) (pair-first (first-children a tt)) (pair-first (second-children a tt))
+  first-both a = both a depth (omega arith) (pair-first (first-children a tt)) (pair-first (second-children a tt))
 
-  pub calls-second : Arm is t s from row depth r (pair x y) → (y < t) × (WalkRow isPolicy s y depth × WalkRow isPolicy s (r .y) depth)
+  pub second-both : {x y : ℕ} → Arm is s from row depth r (pair x y) → (y < from) × (WalkRow isPolicy s y depth × WalkRow isPolicy s (r .y) depth)
   unfolding like rowMeant
-  calls-second a = calls-both a depth (omega arith) (pair-second (first-children a tt)) (pair-second (second-children a tt))
+  second-both a = both a depth (omega arith) (pair-second (first-children a tt)) (pair-second (second-children a tt))
 
-  pub calls-action : Arm is t s from row depth r (duty x y) → (x < t) × (WalkRow isAction s x depth × WalkRow isAction s (r .x) depth)
+  pub action-both : {x y : ℕ} → Arm is s from row depth r (duty x y) → (x < from) × (WalkRow isAction s x depth × WalkRow isAction s (r .x) depth)
   unfolding like rowMeant
-  calls-action a = calls-both a depth (omega arith) (duty-first (first-children a tt)) (duty-first (second-children a tt))
+  action-both a = both a depth (omega arith) (duty-first (first-children a tt)) (duty-first (second-children a tt))
 
-  pub calls-policy : Arm is t s from row depth r (duty x y) → (y < t) × (WalkRow isPolicy s y depth × WalkRow isPolicy s (r .y) depth)
+  pub policy-both : {x y : ℕ} → Arm is s from row depth r (duty x y) → (y < from) × (WalkRow isPolicy s y depth × WalkRow isPolicy s (r .y) depth)
   unfolding like rowMeant
-  calls-policy a = calls-both a depth (omega arith) (duty-second (first-children a tt)) (duty-second (second-children a tt))
+  policy-both a = both a depth (omega arith) (duty-second (first-children a tt)) (duty-second (second-children a tt))
 
-module _ {is : Formula → Bool} {t : ℕ} {s : List ℕ} {from row depth : ℕ} {r : rows.Row} {x : ℕ} where
-  pub calls-body : Arm is t s from row depth r (body x) → (x < t) × (WalkRow isPolicy s x (depth + 1) × WalkRow isPolicy s (r .x) (depth + 1))
+  pub body-both : {x : ℕ} → Arm is s from row depth r (body x) → (x < from) × (WalkRow isPolicy s x (depth + 1) × WalkRow isPolicy s (r .x) (depth + 1))
   unfolding like rowMeant
-  calls-body a = calls-both a (depth + 1) (omega arith) (body-child (first-children a tt)) (body-child (second-children a tt))
+  body-both a = both a (depth + 1) (omega arith) (body-child (first-children a tt)) (body-child (second-children a tt))
+
+-- A walk that began at `body` and `row`, under `depth` for-alls, and has come to `from` and `to`, under `under`: its answer there is that of the whole.
+pub record Ahead (σ : Sort) (u : ℕ) (s : List ℕ) (body row depth from to under : ℕ) : Type 0 where
+  pub lower : from ≤ body
+  pub first : WalkRow isPolicy s from under
+  pub second : WalkRow isPolicy s to under
+  pub whole : same (treeIn (book s) to) (put σ u under (treeIn (book s) from)) ≡ same (treeIn (book s) row) (put σ u depth (treeIn (book s) body))
+
+pub ahead-all :
+    {σ : Sort} {u : ℕ} {s : List ℕ} {body row depth : ℕ} → WalkRow isPolicy s body depth × WalkRow isPolicy s row depth →
+    Ahead σ u s body row depth body row depth
+ahead-all g = record { lower = omega arith; first = g .0; second = g .1; whole = refl }
+
+pub ahead-more :
+    {σ : Sort} {u : ℕ} {s : List ℕ} {body row depth from to under x y d : ℕ} → Ahead σ u s body row depth from to under →
+    (x < from) × (WalkRow isPolicy s x d × WalkRow isPolicy s y d) →
+    same (treeIn (book s) y) (put σ u d (treeIn (book s) x)) ≡ same (treeIn (book s) to) (put σ u under (treeIn (book s) from)) →
+    Ahead σ u s body row depth x y d
+ahead-more a b e = record { lower = omega (arith, a .lower, b .0); first = b .1 .0; second = b .1 .1; whole = e ∙ a .whole }

@@ -181,6 +181,10 @@ duty-first (of-duty a b) = a
 pub duty-second : {l : List Formula} {k x y : ℕ} → Children l k (duty x y) → Below isPolicy l k y
 duty-second (of-duty a b) = b
 
+-- the row of a call is lower than that from which its caller began
+pub called : {P : Type 0} {n row t : ℕ} → row ≤ t → (n < row) × P → (n < t) × P
+called le p = (omega (arith, p .0), p .1)
+
 -- a row that is not bad has a node
 abbrev pub IsNode : Node → Type 0
 IsNode (leaf x y z) = Unit {0}

@@ -57,7 +57,7 @@ fn common_node(body: Row, row: Row) -> Node
     node_of(body)
 }
 
-// Is policy `row` the policy `body`, which stands under `depth` for-alls, with `term` put in for the variable of the sort?
+// Is policy `row` the policy `body`, which stands under `depth` for-alls, with `term` put in for the variable of the sort? The last policies of two nodes are walked by the same loop.
 pub fn policy_instance(
     book: &[u8],
     sort: Sort,
@@ -70,29 +70,41 @@ pub fn policy_instance(
     requires { ⌜ WalkRow isPolicy (now book) row depth ⌝ }
     ensures { λ r. ⌜ r ≡ same (treeIn (trees (now (book .entry))) row) (put (sortMeant sort) term depth (treeIn (trees (now (book .entry))) body)) ⌝ }
 {
-    let other = row_at(book, row);
-    match common_node(row_at(book, body), other) {
-        Node::Leaf(x, y, z) => three_match(sort, term, depth, x, y, z, other),
-        Node::Said(x, y, z) => {
-            if two_match(sort, term, depth, x, z, other) {
-                return policy_instance(book, sort, term, depth, y as usize, other.y as usize);
+    let mut from = body;
+    let mut to = row;
+    let mut under = depth;
+    loop {
+        let other = row_at(book, to);
+        match common_node(row_at(book, from), other) {
+            Node::Leaf(x, y, z) => return three_match(sort, term, under, x, y, z, other),
+            Node::Said(x, y, z) => {
+                if !two_match(sort, term, under, x, z, other) {
+                    return false;
+                }
+                from = y as usize;
+                to = other.y as usize;
             }
-            false
-        }
-        Node::Pair(x, y) => {
-            if policy_instance(book, sort, term, depth, x as usize, other.x as usize) {
-                return policy_instance(book, sort, term, depth, y as usize, other.y as usize);
+            Node::Pair(x, y) => {
+                if !policy_instance(book, sort, term, under, x as usize, other.x as usize) {
+                    return false;
+                }
+                from = y as usize;
+                to = other.y as usize;
             }
-            false
-        }
-        Node::Body(x) => policy_instance(book, sort, term, depth + 1, x as usize, other.x as usize),
-        Node::Duty(x, y) => {
-            if action_instance(book, sort, term, depth, x as usize, other.x as usize) {
-                return policy_instance(book, sort, term, depth, y as usize, other.y as usize);
+            Node::Body(x) => {
+                under += 1;
+                from = x as usize;
+                to = other.x as usize;
             }
-            false
+            Node::Duty(x, y) => {
+                if !action_instance(book, sort, term, under, x as usize, other.x as usize) {
+                    return false;
+                }
+                from = y as usize;
+                to = other.y as usize;
+            }
+            Node::None => return false,
         }
-        Node::None => false,
     }
 }
 
