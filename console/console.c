@@ -28,7 +28,7 @@ struct refusal {
 static const struct refusal refusals[] = {
     {NULL, "No such refusal."},
     {NULL, "The file has under 36 or over 47,652 bytes."},
-    {"Part", "it is not where it is due, or has no allowed length."},
+    {"Part", "it is not where it is due, or its length is not right."},
     {"Formula", "it is not well made."},
     {"Formula", "it stands in the book a second time."},
     {"Log row", "its action or its observers are not well made."},

@@ -74,10 +74,10 @@ struct justification_verdict {
 **
 **  1  It has under 36 or over 47,652 bytes. Place: 0.
 **  2  A part is not where it is due, has no whole number of records or too
-**     many, or the last part and the file do not end together; or there are
-**     observers without log rows, or premises without steps. Place: the part
-**     (0 formulas, 1 log rows, 2 observers, 3 conditions, 4 obligations, 5
-**     labels, 6 steps, 7 premises).
+**     many, or goes beyond the end of the file, or the last part ends before
+**     it; or there are observers without log rows, or premises without steps.
+**     Place: the part (0 formulas, 1 log rows, 2 observers, 3 conditions, 4
+**     obligations, 5 labels, 6 steps, 7 premises).
 **  3  A formula is not well made. Place: the formula's row.
 **  4  A formula stands there a second time. Place: the second row.
 **  5  A log row holds no action that could have happened, or its observers are

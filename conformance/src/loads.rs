@@ -18,10 +18,10 @@ pub fn loads() -> Vec<Load> {
     let load = |name, case| Load { name, case };
     vec![
         load("full size", full_size()),
-        load("check 4, rows of one sum", rows_of_one_sum(8, last_fields())),
-        load("the same, 1/8 of the size", rows_of_one_sum(1, last_fields())),
-        load("check 4, one sum and end of the key", rows_of_one_sum(8, first_fields())),
-        load("the same, 1/8 of the size", rows_of_one_sum(1, first_fields())),
+        load("check 4, one sum", rows_of_one_sum(8, last_fields())),
+        load("check 4, one sum, 1/8 size", rows_of_one_sum(1, last_fields())),
+        load("check 4, one sum and end", rows_of_one_sum(8, first_fields())),
+        load("check 4, sum and end, 1/8 size", rows_of_one_sum(1, first_fields())),
         load("check 5, wide actions", long_actions(wide)),
         load("check 5, deep actions", long_actions(deep)),
         load("check 5, nested actions", long_actions(nested)),

@@ -124,7 +124,7 @@ fn cut_files() {
 Not shown: log rows, observers, conditions, obligations, labels, steps, premises
 
 Verdict: refused 2 1
-  Part 1 (log rows): it is not where it is due, or has no allowed length.
+  Part 1 (log rows): it is not where it is due, or its length is not right.
   The header says: offset 76, length 6.
 "
     ));

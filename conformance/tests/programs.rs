@@ -104,7 +104,7 @@ fn console_words() {
     says(&[], "The file has under 36 or over 47,652 bytes.");
     let mut longer = example("grant");
     longer.push(0);
-    says(&longer, "Part 7 (premises): it is not where it is due, or has no allowed length.");
+    says(&longer, "Part 7 (premises): it is not where it is due, or its length is not right.");
     says(&example("grant"), "The justification proves what is owed.");
     says(&example("creator"), "This action asks nothing of this agent.");
     says(&example("twice"), "Step 5: a duty owed at each use is used twice.");

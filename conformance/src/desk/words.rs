@@ -17,7 +17,7 @@ pub const PARTS: [&str; 8] = [
 /// Refusals 1 to 23: what the place counts, empty where there is none, and what is wrong.
 pub const REFUSALS: [(&str, &str); 23] = [
     ("", "The file has under 36 or over 47,652 bytes."),
-    ("Part", "it is not where it is due, or has no allowed length."),
+    ("Part", "it is not where it is due, or its length is not right."),
     ("Formula", "it is not well made."),
     ("Formula", "it stands in the book a second time."),
     ("Log row", "its action or its observers are not well made."),
