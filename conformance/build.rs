@@ -1,4 +1,4 @@
-//! Links the proved libraries where the feature `proved` asks for them.
+//! Links the proved library where the feature `proved` asks for it.
 
 use std::env;
 use std::path::Path;
@@ -11,8 +11,6 @@ fn main() {
     let here = env::var("CARGO_MANIFEST_DIR").expect("cargo names the package's folder");
     let built = Path::new(&here).join("../target/staticlib");
     println!("cargo:rustc-link-search=native={}", built.display());
-    for library in ["justification", "case_file", "formula_book"] {
-        println!("cargo:rustc-link-lib=static={library}");
-        println!("cargo:rerun-if-changed={}", built.join(format!("lib{library}.a")).display());
-    }
+    println!("cargo:rustc-link-lib=static=justification");
+    println!("cargo:rerun-if-changed={}", built.join("libjustification.a").display());
 }

@@ -18,39 +18,18 @@ static const char *const parts[] = {"formulas",   "log rows",    "observers",
                                     "conditions", "obligations", "labels",
                                     "steps",      "premises"};
 
-/* A refusal in words: what its place counts (null where it has no place). */
+/* A refusal in words: what its place counts, and what is wrong. */
 struct refusal {
     const char *counts;
     const char *meaning;
 };
 
-/* By number; there is no refusal 0. */
+/* By number. */
 static const struct refusal refusals[] = {
-    {NULL, "No such refusal."},
-    {NULL, "The file has under 36 or over 47,652 bytes."},
-    {"Part", "it is not where it is due, or its length is not right."},
-    {"Formula", "it is not well made."},
-    {"Formula", "it stands in the book a second time."},
-    {"Log row", "its action or its observers are not well made."},
-    {"Condition", "it is no reading that could be certified."},
-    {"Obligation", "its mark or its action is not well made."},
-    {"Label", "its mark and its formula do not go together."},
-    {NULL, "The agent is no agent, or the audited action is no action."},
-    {NULL, "Something is owed, and no justification is given."},
-    {NULL, "A justification is given, and nothing is owed."},
-    {"Step", "its rule, formula, premises or argument are not well made."},
-    {"Step", "a premise is no earlier step, or was used before."},
-    {"Step", "what it rests on is absent: not given, not certified, or struck "
-             "out."},
-    {"Step", "it cites an entry that is not there."},
-    {"Step", "the agent is not among the observers of the log row."},
-    {"Step", "a duty owed at each use is used twice."},
-    {"Step", "the rule does not give this formula."},
-    {"Step", "\"for all\" is concluded from something assumed of one."},
-    {"Step", "no later step uses it."},
-    {"Label", "it is still open at the end."},
-    {"Step", "it is the last one, and does not prove what is owed."},
-    {"Entries needed", "the room is too short."},
+    [JUSTIFICATION_NO_REFUSAL] = {"", "No such refusal."},
+#define REFUSAL(number, name, counts, meaning) [number] = {counts, meaning},
+    JUSTIFICATION_REFUSALS(REFUSAL)
+#undef REFUSAL
 };
 
 /* Reads what is left of the stream; -1 if it cannot be read. */
@@ -97,13 +76,14 @@ static void print_refused(unsigned number, unsigned place)
 {
     unsigned known = sizeof refusals / sizeof refusals[0];
     const struct refusal *refusal = &refusals[number < known ? number : 0];
+    int has_place = refusal->counts[0] != '\0';
 
     printf("refused %u %u\n", number, place);
-    if (refusal->counts != NULL)
+    if (has_place)
         printf("%s %u", refusal->counts, place);
     if (number == JUSTIFICATION_FAULTY_PART && place < 8)
         printf(" (%s)", parts[place]);
-    printf("%s%s\n", refusal->counts != NULL ? ": " : "", refusal->meaning);
+    printf("%s%s\n", has_place ? ": " : "", refusal->meaning);
 }
 
 static void print_verdict(struct justification_verdict verdict,

@@ -122,29 +122,60 @@ struct justification_verdict {
 ** 23  The justification is good and the room is too short. Place: the entries
 **     needed. Call again with a room of so many.
 */
-#define JUSTIFICATION_FILE_LENGTH 1
-#define JUSTIFICATION_FAULTY_PART 2
-#define JUSTIFICATION_BAD_FORMULA 3
-#define JUSTIFICATION_REPEATED_FORMULA 4
-#define JUSTIFICATION_BAD_LOG_ROW 5
-#define JUSTIFICATION_BAD_CONDITION 6
-#define JUSTIFICATION_BAD_OBLIGATION 7
-#define JUSTIFICATION_BAD_LABEL 8
-#define JUSTIFICATION_BAD_AUDIT 9
-#define JUSTIFICATION_NO_STEPS 10
-#define JUSTIFICATION_STEPS_NOT_OWED 11
-#define JUSTIFICATION_BAD_STEP 12
-#define JUSTIFICATION_BAD_PREMISE 13
-#define JUSTIFICATION_ABSENT 14
-#define JUSTIFICATION_NO_SUCH_ENTRY 15
-#define JUSTIFICATION_NOT_SEEN 16
-#define JUSTIFICATION_USED_TWICE 17
-#define JUSTIFICATION_MISFIT 18
-#define JUSTIFICATION_PARAMETER_NOT_FREE 19
-#define JUSTIFICATION_STEP_NOT_USED 20
-#define JUSTIFICATION_LABEL_OPEN 21
-#define JUSTIFICATION_NOT_WHAT_IS_OWED 22
-#define JUSTIFICATION_ROOM_TOO_SHORT 23
+
+/*
+** The same as a list, to be used with a macro of four parameters: number, name,
+** what the place counts ("" where it has none), and what is wrong in words.
+** The console prints refusals by it.
+*/
+#define JUSTIFICATION_REFUSALS(REFUSAL)                                        \
+    REFUSAL(1, FILE_LENGTH, "", "The file has under 36 or over 47,652 bytes.") \
+    REFUSAL(2, FAULTY_PART, "Part",                                            \
+            "it is not where it is due, or its length is not right.")          \
+    REFUSAL(3, BAD_FORMULA, "Formula", "it is not well made.")                 \
+    REFUSAL(4, REPEATED_FORMULA, "Formula",                                    \
+            "it stands in the book a second time.")                            \
+    REFUSAL(5, BAD_LOG_ROW, "Log row",                                         \
+            "its action or its observers are not well made.")                  \
+    REFUSAL(6, BAD_CONDITION, "Condition",                                     \
+            "it is no reading that could be certified.")                       \
+    REFUSAL(7, BAD_OBLIGATION, "Obligation",                                   \
+            "its mark or its action is not well made.")                        \
+    REFUSAL(8, BAD_LABEL, "Label",                                             \
+            "its mark and its formula do not go together.")                    \
+    REFUSAL(9, BAD_AUDIT, "",                                                  \
+            "The agent is no agent, or the audited action is no action.")      \
+    REFUSAL(10, NO_STEPS, "",                                                  \
+            "Something is owed, and no justification is given.")               \
+    REFUSAL(11, STEPS_NOT_OWED, "",                                            \
+            "A justification is given, and nothing is owed.")                  \
+    REFUSAL(12, BAD_STEP, "Step",                                              \
+            "its rule, formula, premises or argument are not well made.")      \
+    REFUSAL(13, BAD_PREMISE, "Step",                                           \
+            "a premise is no earlier step, or was used before.")               \
+    REFUSAL(14, ABSENT, "Step",                                                \
+            "what it rests on is absent: not given, not certified, or "        \
+            "struck out.")                                                     \
+    REFUSAL(15, NO_SUCH_ENTRY, "Step", "it cites an entry that is not there.") \
+    REFUSAL(16, NOT_SEEN, "Step",                                              \
+            "the agent is not among the observers of the log row.")            \
+    REFUSAL(17, USED_TWICE, "Step", "a duty owed at each use is used twice.")  \
+    REFUSAL(18, MISFIT, "Step", "the rule does not give this formula.")        \
+    REFUSAL(19, PARAMETER_NOT_FREE, "Step",                                    \
+            "\"for all\" is concluded from something assumed of one.")         \
+    REFUSAL(20, STEP_NOT_USED, "Step", "no later step uses it.")               \
+    REFUSAL(21, LABEL_OPEN, "Label", "it is still open at the end.")           \
+    REFUSAL(22, NOT_WHAT_IS_OWED, "Step",                                      \
+            "it is the last one, and does not prove what is owed.")            \
+    REFUSAL(23, ROOM_TOO_SHORT, "Entries needed", "the room is too short.")
+
+/* JUSTIFICATION_FILE_LENGTH is 1, and so on down the list. */
+enum justification_refusal {
+#define JUSTIFICATION_NUMBER(number, name, counts, meaning) \
+    JUSTIFICATION_##name = number,
+    JUSTIFICATION_REFUSALS(JUSTIFICATION_NUMBER) JUSTIFICATION_NO_REFUSAL = 0
+#undef JUSTIFICATION_NUMBER
+};
 
 /*
 ** The verdict on a case file.

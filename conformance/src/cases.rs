@@ -1,5 +1,8 @@
 //! Document 01's examples: rows 1 to 23 of its table, and the desk cases.
 
+use std::fs;
+use std::path::Path;
+
 use crate::builder::*;
 use crate::checker::{Verdict, ABSENT};
 use crate::vectors::{read, Vector};
@@ -196,12 +199,23 @@ pub fn passed(name: &str, case: CaseFile, obligations: &[u16], rows: &[u16]) -> 
     Vector { written: [obligations, rows].concat(), ..vector(name, case, verdict) }
 }
 
-pub fn base_vectors() -> Vec<Vector> {
-    read(include_str!("../base.tsv")).expect("every line of base.tsv is a vector")
+/// The vectors of each file of `vectors/`, with the file's name.
+pub fn vector_files() -> Vec<(String, Vec<Vector>)> {
+    let folder = Path::new(env!("CARGO_MANIFEST_DIR")).join("vectors");
+    let entries = fs::read_dir(folder).expect("the vectors are there");
+    let mut paths: Vec<_> = entries.map(|entry| entry.expect("it is listed").path()).collect();
+    paths.sort();
+    let vectors = paths.into_iter().map(|path| {
+        let text = fs::read_to_string(&path).expect("it is text");
+        let name = path.display().to_string();
+        let vectors = read(&text).unwrap_or_else(|| panic!("a line of {name} is no vector"));
+        (name, vectors)
+    });
+    vectors.collect()
 }
 
 pub fn examples_and_vectors() -> Vec<Vector> {
     let mut all = examples();
-    all.extend(base_vectors());
+    all.extend(vector_files().into_iter().flat_map(|(_, vectors)| vectors));
     all
 }

@@ -1,19 +1,7 @@
-//! The proved libraries, behind safe functions. Nothing checks these declarations against the
-//! libraries' source, so they are few.
+//! The proved library, behind safe functions. Nothing checks these declarations against the
+//! library's source, so they are few.
 
 use crate::checker::{Refusal, Verdict};
-
-#[repr(C)]
-struct BookNumbers {
-    kind: usize,
-    value: usize,
-}
-
-#[repr(C)]
-struct CaseNumbers {
-    number: usize,
-    place: usize,
-}
 
 #[repr(C)]
 struct VerdictNumbers {
@@ -23,52 +11,34 @@ struct VerdictNumbers {
 }
 
 #[repr(C)]
-struct AdmissionNumbers {
+struct RunNumbers {
     number: u16,
     place: u16,
 }
 
 extern "C" {
-    fn formula_book_admit(book: *const u8, length: usize) -> BookNumbers;
-    fn case_file_admit(file: *const u8, length: usize) -> CaseNumbers;
+    fn formula_book_admit(book: *const u8, length: usize) -> RunNumbers;
     fn justification_check(
         file: *const u8,
         length: usize,
         room: *mut u16,
         entries: usize,
     ) -> VerdictNumbers;
-    fn justification_admit(file: *const u8, length: usize) -> AdmissionNumbers;
+    fn justification_admit(file: *const u8, length: usize) -> RunNumbers;
 }
 
-/// The answer to any bytes as a formula book.
-#[derive(Clone, Copy, Debug, PartialEq, Eq)]
-pub enum BookAnswer {
-    Admitted(usize),
-    Misshapen,
-    BadRow(usize),
-    Repeats(usize),
-}
-
-pub fn admit_book(book: &[u8]) -> BookAnswer {
-    // The library reads `length` bytes from the pointer and writes nothing.
-    let answer = unsafe { formula_book_admit(book.as_ptr(), book.len()) };
-    match answer.kind {
-        0 => BookAnswer::Admitted(answer.value),
-        1 => BookAnswer::Misshapen,
-        2 => BookAnswer::BadRow(answer.value),
-        3 => BookAnswer::Repeats(answer.value),
-        kind => panic!("an answer of kind {kind}"),
+/// The number and place of the first check that fails, or 0 and 0.
+fn answer(numbers: RunNumbers) -> Result<(), Refusal> {
+    match (numbers.number, numbers.place) {
+        (0, 0) => Ok(()),
+        (number, place) => Err(Refusal { number, place }),
     }
 }
 
-/// The answer to any bytes as a case file: the first of checks 1 to 9 that fails, and its place.
-pub fn admit_case(file: &[u8]) -> Result<(), (usize, usize)> {
+/// The answer to any bytes as a formula book, by check 2 of its length and by checks 3 and 4.
+pub fn admit_book(book: &[u8]) -> Result<(), Refusal> {
     // The library reads `length` bytes from the pointer and writes nothing.
-    let answer = unsafe { case_file_admit(file.as_ptr(), file.len()) };
-    match answer.number {
-        0 => Ok(()),
-        number => Err((number, answer.place)),
-    }
+    answer(unsafe { formula_book_admit(book.as_ptr(), book.len()) })
 }
 
 /// The verdict on any bytes as a case file, and what a pass writes to the room.
@@ -85,12 +55,8 @@ pub fn check(file: &[u8], room: &mut [u16]) -> Verdict {
     }
 }
 
-/// The same answer as `admit_case`, as the desk's library gives it.
+/// The answer to any bytes as a case file, by checks 1 to 9.
 pub fn admit(file: &[u8]) -> Result<(), Refusal> {
     // The library reads `length` bytes from the pointer and writes nothing.
-    let answer = unsafe { justification_admit(file.as_ptr(), file.len()) };
-    match (answer.number, answer.place) {
-        (0, 0) => Ok(()),
-        (number, place) => Err(Refusal { number, place }),
-    }
+    answer(unsafe { justification_admit(file.as_ptr(), file.len()) })
 }

@@ -2,23 +2,27 @@
 
 use conformance::builder::{agent_variable, data, data_variable};
 use conformance::checker::{admit_book, Refusal, ABSENT};
-use conformance::proved::{self, BookAnswer};
+use conformance::proved;
 use conformance::random::{fitting_book, row, Random, Row};
 
-fn expected(book: &[u8]) -> BookAnswer {
-    match admit_book(book) {
-        Ok(rows) => BookAnswer::Admitted(rows.len()),
-        Err(Refusal { number: 2, .. }) => BookAnswer::Misshapen,
-        Err(Refusal { number: 3, place }) => BookAnswer::BadRow(place as usize),
-        Err(Refusal { number: 4, place }) => BookAnswer::Repeats(place as usize),
-        Err(other) => panic!("a book is not refused by {other:?}"),
-    }
+/// Admitted, or refused at a place: by 2 for its length, by 3 for a bad row, by 4 for a repeat.
+type Answer = Result<(), Refusal>;
+
+const ADMITTED: Answer = Ok(());
+const MISSHAPEN: Answer = Err(Refusal { number: 2, place: 0 });
+
+fn bad_row(row: usize) -> Answer {
+    Err(Refusal { number: 3, place: row as u16 })
 }
 
-fn agree(book: &[u8]) -> BookAnswer {
-    let answer = proved::admit_book(book);
-    assert_eq!(answer, expected(book), "{book:?}");
-    answer
+fn repeats(row: usize) -> Answer {
+    Err(Refusal { number: 4, place: row as u16 })
+}
+
+fn agree(book: &[u8]) -> Answer {
+    let expected = admit_book(book).map(|_| ());
+    assert_eq!(proved::admit_book(book), expected, "{book:?}");
+    expected
 }
 
 /// p(), p() and p(), .., one node each.
@@ -40,7 +44,7 @@ fn bad_third(third: Row) {
     let book =
         [row(0, 1, [0, ABSENT, ABSENT]), row(10, 1, [0, ABSENT, ABSENT]), row(0, 2, [ABSENT; 3])];
     let bytes = [&book[..], &[third]].concat().concat();
-    assert_eq!(agree(&bytes), BookAnswer::BadRow(3), "{third:?}");
+    assert_eq!(agree(&bytes), bad_row(3), "{third:?}");
 }
 
 /// Damages that document 01 and the list of open points name, each on a small book.
@@ -107,12 +111,12 @@ fn sorts_of_bound_variables() {
     for (code, own_depth, one_deeper) in sorts {
         let body = row(0, 0, [own_depth, ABSENT, ABSENT]);
         let direct = [body, row(4, code, [0, ABSENT, ABSENT])].concat();
-        assert_eq!(agree(&direct), BookAnswer::BadRow(1));
+        assert_eq!(agree(&direct), bad_row(1));
         let under = row(0, 0, [one_deeper, ABSENT, ABSENT]);
         for inner in [0, 1] {
             let nested =
                 [under, row(4, inner, [0, ABSENT, ABSENT]), row(4, code, [1, ABSENT, ABSENT])];
-            assert_eq!(agree(&nested.concat()), BookAnswer::BadRow(2));
+            assert_eq!(agree(&nested.concat()), bad_row(2));
         }
     }
 }
@@ -120,24 +124,24 @@ fn sorts_of_bound_variables() {
 #[test]
 fn sizes_and_limits() {
     for count in 2..=64 {
-        assert_eq!(agree(&nodes(count).concat()), BookAnswer::Admitted(count));
+        assert_eq!(agree(&nodes(count).concat()), ADMITTED);
     }
-    assert_eq!(agree(&nodes(65).concat()), BookAnswer::BadRow(64));
+    assert_eq!(agree(&nodes(65).concat()), bad_row(64));
     let mut wide: Vec<Row> =
         (0..1_025).map(|k| row(0, (k % 256) as u8, [data(k as u16), ABSENT, ABSENT])).collect();
-    assert_eq!(agree(&wide.concat()), BookAnswer::Misshapen);
+    assert_eq!(agree(&wide.concat()), MISSHAPEN);
     wide.pop();
-    assert_eq!(agree(&wide.concat()), BookAnswer::Admitted(1_024));
+    assert_eq!(agree(&wide.concat()), ADMITTED);
     let bytes = wide.concat();
     for cut in 0..64 {
         let answer = agree(&bytes[..cut]);
-        assert_eq!(answer == BookAnswer::Misshapen, cut % 8 != 0);
+        assert_eq!(answer == MISSHAPEN, cut % 8 != 0);
     }
 }
 
 /// Each row of a full book repeated at each of some later places, row 0 among them.
 #[test]
-fn repeats() {
+fn each_row_repeated() {
     let book: Vec<Row> =
         (0..1_023).map(|k| row(0, (k % 7) as u8, [data(k as u16), ABSENT, ABSENT])).collect();
     for lower in [0, 1, 2, 500, 1_000, 1_022] {
@@ -145,7 +149,7 @@ fn repeats() {
             if lower < later {
                 let mut again = book.clone();
                 again.insert(later, book[lower]);
-                assert_eq!(agree(&again.concat()), BookAnswer::Repeats(later));
+                assert_eq!(agree(&again.concat()), repeats(later));
             }
         }
     }
@@ -184,10 +188,8 @@ fn random_books() {
             bytes.truncate(random.below(bytes.len() + 1));
         }
         let case = match agree(&bytes) {
-            BookAnswer::Admitted(_) => 0,
-            BookAnswer::Misshapen => 1,
-            BookAnswer::BadRow(_) => 2,
-            BookAnswer::Repeats(_) => 3,
+            Ok(()) => 0,
+            Err(Refusal { number, .. }) => number as usize - 1,
         };
         seen[case] += 1;
     }

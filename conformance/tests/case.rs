@@ -9,15 +9,13 @@ use conformance::checker::{admit, ABSENT, HEADER_BYTES, PARTS};
 use conformance::proved;
 use conformance::random::{damage, fitting_book, Random};
 
-type Answer = Result<(), (usize, usize)>;
+/// Admitted, or refused by a check at a place.
+type Answer = Result<(), (u16, u16)>;
 
 fn agree(file: &[u8]) -> Answer {
-    let expected = match admit(file) {
-        Ok(_) => Ok(()),
-        Err(refusal) => Err((refusal.number as usize, refusal.place as usize)),
-    };
-    assert_eq!(proved::admit_case(file), expected, "{file:?}");
-    expected
+    let expected = admit(file).map(|_| ());
+    assert_eq!(proved::admit(file), expected, "{file:?}");
+    expected.map_err(|refusal| (refusal.number, refusal.place))
 }
 
 /// A file of so many bytes in each part, all of them 0.
@@ -62,11 +60,11 @@ fn full() -> CaseFile {
 }
 
 #[test]
-fn examples_and_base_vectors() {
+fn every_example_and_vector() {
     let mut refused = [0; 10];
     for vector in examples_and_vectors() {
         if let Err((number, _)) = agree(&vector.file) {
-            refused[number] += 1;
+            refused[number as usize] += 1;
         }
     }
     assert!(refused[1..].iter().all(|count| *count > 0), "{refused:?}");
@@ -90,7 +88,7 @@ fn each_part_faulty_in_each_way() {
                 for pair in [(number, size), (offset, number), (number, number)] {
                     let file = case.clone().change(|case| case.header[place] = Some(pair));
                     if let Err((2, place)) = agree(&file.to_bytes()) {
-                        places[place] += 1;
+                        places[place as usize] += 1;
                     }
                 }
             }
@@ -110,7 +108,7 @@ fn parts_at_their_limits() {
                 let answer = agree(&blank(sizes));
                 let sound = records <= most && extra == 0;
                 let orphan = matches!(place, 2 | 7) && sizes[place] > 0;
-                let faulty = answer == Err((2, place));
+                let faulty = answer == Err((2, place as u16));
                 assert_eq!(faulty, !sound || orphan, "part {place} of {records} records");
             }
         }
@@ -248,7 +246,7 @@ fn stack_of_64_kib() {
     let file = full().to_bytes();
     let answer = thread::Builder::new()
         .stack_size(64 * 1024)
-        .spawn(move || proved::admit_case(&file))
+        .spawn(move || proved::admit(&file))
         .expect("a thread starts")
         .join();
     assert_eq!(answer.expect("the thread ends"), Ok(()));

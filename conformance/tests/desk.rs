@@ -7,7 +7,7 @@ use conformance::builder::{CaseFile, FormulaRow};
 use conformance::cases::{examples_and_vectors, grant, ROOM};
 use conformance::checker::{check, Verdict, ABSENT, HEADER_BYTES, PARTS};
 use conformance::damages::damaged;
-use conformance::desk::{records::RULES, show::show, text::text, words::REFUSALS, write::write};
+use conformance::desk::{records::RULES, show::show, text::text, write::write};
 use conformance::examples::{all, folder};
 use conformance::full_size::full_size;
 use conformance::justifications::{passing, slipping};
@@ -31,7 +31,7 @@ fn assert_there_and_back(file: &[u8]) -> bool {
 }
 
 #[test]
-fn examples_and_base_vectors() {
+fn every_example_and_vector() {
     let vectors = examples_and_vectors().into_iter().chain(all());
     let sound = vectors.filter(|vector| assert_there_and_back(&vector.file)).count();
     assert!(sound > 350, "{sound}");
@@ -277,20 +277,6 @@ fn limits_name_the_line() {
         let text = format!("agent a0\naction absent\n{line}{}", vec!["0"; most].join(", "));
         assert!(write(text.as_bytes()).is_ok(), "{line}");
         assert_eq!(write((text + ", 0").as_bytes()).expect_err(line).line, 3);
-    }
-}
-
-/// The console says the same: its sentences are these.
-#[test]
-fn words_are_the_consoles() {
-    let console = folder().join("../console/console.c");
-    let source = fs::read_to_string(console).expect("it is there");
-    let quoted = source.split('"').enumerate();
-    let text = quoted.filter(|(number, piece)| number % 2 == 1 || !piece.trim().is_empty());
-    let text: String = text.map(|(_, piece)| piece.replace('\\', "")).collect();
-    for (counts, meaning) in REFUSALS {
-        let meaning = meaning.replace('"', "");
-        assert!(text.contains(&meaning), "{counts}: {meaning}");
     }
 }
 

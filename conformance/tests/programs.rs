@@ -7,6 +7,7 @@ use std::path::{Path, PathBuf};
 use std::process::{Command, Output};
 
 use conformance::checker::{Verdict, MOST_BYTES};
+use conformance::desk::words::words;
 use conformance::examples::{all, folder, output};
 use conformance::streams;
 use conformance::vectors::Vector;
@@ -59,23 +60,18 @@ fn header_by_itself() {
     }
 }
 
-/// The exit status, the verdict in the first line, words in the second, and then what is listed.
+/// The exit status, the verdict in the first line, and then the words that `show-case` has too.
 fn assert_console_says(output: &Output, example: &Vector) {
-    let (status, duties) = match example.verdict {
-        Verdict::Passed { obligations, .. } => (0, obligations as usize),
-        Verdict::NoneOwed => (1, 0),
-        Verdict::Refused { .. } => (2, 0),
+    let status = match example.verdict {
+        Verdict::Passed { .. } => 0,
+        Verdict::NoneOwed => 1,
+        Verdict::Refused { .. } => 2,
     };
     assert_eq!(output.status.code(), Some(status), "{}", example.name);
     let text = String::from_utf8_lossy(&output.stdout);
     let lines: Vec<&str> = text.lines().collect();
     assert_eq!(lines[0], example.verdict.to_string(), "{}", example.name);
-    assert!(lines[1].ends_with('.'), "{}", lines[1]);
-    let listed = example.written.iter().enumerate().map(|(entry, number)| match entry < duties {
-        true => format!("Obligation {number} is discharged."),
-        false => format!("Log row {number} is cited."),
-    });
-    assert_eq!(lines[2..], listed.collect::<Vec<String>>());
+    assert_eq!(lines[1..], words(example.verdict, &example.written), "{}", example.name);
 }
 
 #[test]

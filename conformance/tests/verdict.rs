@@ -7,6 +7,7 @@ use conformance::builder::{data, CaseFile, Step};
 use conformance::cases::{examples_and_vectors, ROOM};
 use conformance::checker::{check, Verdict, ABSENT, MOST_BYTES};
 use conformance::damages::{damaged, WAYS};
+use conformance::desk::words::refusals;
 use conformance::examples;
 use conformance::full_size::full_size;
 use conformance::justifications::{passing, slipping};
@@ -15,7 +16,7 @@ use conformance::random::Random;
 use conformance::rooms::{agreed, agreed_in_all_rooms, answer, PATTERN};
 
 #[test]
-fn examples_and_base_vectors() {
+fn every_example_and_vector() {
     for vector in examples_and_vectors().into_iter().chain(examples::all()) {
         let mut room = vector.written.clone();
         room.resize(vector.room, PATTERN);
@@ -25,23 +26,21 @@ fn examples_and_base_vectors() {
     }
 }
 
-/// How often each answer came: 0 a pass, 1 to 23 that refusal, 24 none owed. A pass whose room is
-/// one entry too short counts as 23 too.
-#[derive(Default)]
-struct Answers([usize; 25]);
+/// None owed, among the numbers of refusals.
+const NONE_OWED: u16 = u16::MAX;
 
-impl Answers {
-    fn count(&mut self, verdict: Verdict) {
-        let at = match verdict {
-            Verdict::Passed { obligations, rows } => {
-                self.0[23] += usize::from(obligations + rows > 0);
-                0
-            }
-            Verdict::NoneOwed => 24,
-            Verdict::Refused { number, .. } => number as usize,
-        };
-        self.0[at] += 1;
-    }
+/// How often each refusal came, and 0 for a pass. A pass whose room is one entry too short counts
+/// as 23 too.
+type Answers = BTreeMap<u16, usize>;
+
+fn count(answers: &mut Answers, verdict: Verdict) {
+    let numbers = match verdict {
+        Verdict::Passed { obligations: 0, rows: 0 } => vec![0],
+        Verdict::Passed { .. } => vec![0, 23],
+        Verdict::NoneOwed => vec![NONE_OWED],
+        Verdict::Refused { number, .. } => vec![number],
+    };
+    numbers.into_iter().for_each(|number| *answers.entry(number).or_insert(0) += 1);
 }
 
 /// Justifications that pass, with slips, and damaged.
@@ -57,11 +56,11 @@ fn random_file(turn: usize, random: &mut Random) -> (&'static str, Vec<u8>) {
 /// The answers of a run, and how often each way of making a file was refused.
 fn run(seed: u64, turns: usize) -> (Answers, BTreeMap<&'static str, usize>) {
     let mut random = Random(seed);
-    let (mut answers, mut refused) = (Answers::default(), BTreeMap::new());
+    let (mut answers, mut refused) = (Answers::new(), BTreeMap::new());
     for turn in 0..turns {
         let (way, file) = random_file(turn, &mut random);
         let verdict = agreed_in_all_rooms(&file);
-        answers.count(verdict);
+        count(&mut answers, verdict);
         let times = refused.entry(way).or_insert(0);
         *times += usize::from(matches!(verdict, Verdict::Refused { .. }));
     }
@@ -77,15 +76,16 @@ fn random_justifications() {
         let runs = seeds.map(|seed| scope.spawn(move || run(seed, 150_000)));
         runs.map(|run| run.join().expect("the run ends"))
     });
-    let mut counts = [0; 25];
-    let mut refused = BTreeMap::new();
-    for (answers, ways) in runs {
-        counts.iter_mut().zip(answers.0).for_each(|(count, more)| *count += more);
+    let (mut answers, mut refused) = (Answers::new(), BTreeMap::new());
+    for (numbers, ways) in runs {
+        numbers.into_iter().for_each(|(number, more)| *answers.entry(number).or_insert(0) += more);
         ways.into_iter().for_each(|(way, more)| *refused.entry(way).or_insert(0) += more);
     }
-    println!("answers: {counts:?}\nrefused: {refused:?}");
-    assert!(counts[0] >= 100_000, "{counts:?}");
-    assert!(counts[1..].iter().all(|count| *count >= 300), "{counts:?}");
+    println!("answers: {answers:?}\nrefused: {refused:?}");
+    assert!(answers[&0] >= 100_000, "{answers:?}");
+    let due = refusals().iter().map(|refusal| refusal.number).chain([NONE_OWED]);
+    assert!(due.clone().all(|number| answers.get(&number) >= Some(&300)), "{answers:?}");
+    assert_eq!(answers.len(), 1 + due.count(), "{answers:?}");
     assert_eq!(refused.remove("passing"), Some(0));
     assert_eq!(refused.len(), 1 + WAYS, "{refused:?}");
     assert!(refused.values().all(|times| *times >= 100), "{refused:?}");

@@ -62,9 +62,7 @@ fn main() {
         for count in [128, 256, 512, 1_024] {
             let book = make(count);
             let bytes = book.concat();
-            assert!(
-                matches!(proved::admit_book(&bytes), proved::BookAnswer::Admitted(n) if n == count)
-            );
+            assert_eq!(proved::admit_book(&bytes), Ok(()));
             let proved = time(|| proved::admit_book(black_box(&bytes)));
             let set = time(|| black_box(&book).iter().copied().collect::<HashSet<Row>>());
             let separate = time(|| admit_book(black_box(&bytes)).is_ok());

@@ -11,7 +11,7 @@ use super::reading::{named, read, Reading};
 use super::records::{list, marked, reference, rule, RULES};
 use super::text::formula_row;
 use super::tree::{trees, Kind, Line};
-use super::words::{words, PARTS};
+use super::words::{meaning, words, PARTS};
 
 /// What can be shown of any file, and the verdict.
 pub fn show(file: &[u8]) -> String {
@@ -224,16 +224,16 @@ impl View<'_> {
         let Verdict::Refused { number, place } = verdict else { return None };
         let case = &self.reading.case;
         let at = place as usize;
-        match number {
-            2 => self.reading.header.get(at).map(|(offset, length)| {
+        match meaning(number).counts.as_str() {
+            "Part" => self.reading.header.get(at).map(|(offset, length)| {
                 format!("The header says: offset {offset}, length {length}.")
             }),
-            3 | 4 => Some(self.formula(at)),
-            5 => Some(self.row(at)),
-            6 => Some(self.condition(at)),
-            7 => case.obligations.get(at).map(|duty| marked(&self.book, *duty)),
-            8 | 21 => case.labels.get(at).map(|label| marked(&self.book, *label)),
-            12..=20 | 22 => Some(self.step(at)),
+            "Formula" => Some(self.formula(at)),
+            "Log row" => Some(self.row(at)),
+            "Condition" => Some(self.condition(at)),
+            "Obligation" => case.obligations.get(at).map(|duty| marked(&self.book, *duty)),
+            "Label" => case.labels.get(at).map(|label| marked(&self.book, *label)),
+            "Step" => Some(self.step(at)),
             _ => None,
         }
     }

@@ -1,5 +1,7 @@
 //! A verdict in words: the desk console's.
 
+use std::sync::OnceLock;
+
 use crate::checker::Verdict;
 
 /// The parts of a file, by place.
@@ -14,32 +16,61 @@ pub const PARTS: [&str; 8] = [
     "premises",
 ];
 
-/// Refusals 1 to 23: what the place counts, empty where there is none, and what is wrong.
-pub const REFUSALS: [(&str, &str); 23] = [
-    ("", "The file has under 36 or over 47,652 bytes."),
-    ("Part", "it is not where it is due, or its length is not right."),
-    ("Formula", "it is not well made."),
-    ("Formula", "it stands in the book a second time."),
-    ("Log row", "its action or its observers are not well made."),
-    ("Condition", "it is no reading that could be certified."),
-    ("Obligation", "its mark or its action is not well made."),
-    ("Label", "its mark and its formula do not go together."),
-    ("", "The agent is no agent, or the audited action is no action."),
-    ("", "Something is owed, and no justification is given."),
-    ("", "A justification is given, and nothing is owed."),
-    ("Step", "its rule, formula, premises or argument are not well made."),
-    ("Step", "a premise is no earlier step, or was used before."),
-    ("Step", "what it rests on is absent: not given, not certified, or struck out."),
-    ("Step", "it cites an entry that is not there."),
-    ("Step", "the agent is not among the observers of the log row."),
-    ("Step", "a duty owed at each use is used twice."),
-    ("Step", "the rule does not give this formula."),
-    ("Step", "\"for all\" is concluded from something assumed of one."),
-    ("Step", "no later step uses it."),
-    ("Label", "it is still open at the end."),
-    ("Step", "it is the last one, and does not prove what is owed."),
-    ("Entries needed", "the room is too short."),
-];
+/// A refusal as the C header lists it: what its place counts, empty where there is none, and what
+/// is wrong.
+pub struct Meaning {
+    pub number: u16,
+    pub counts: String,
+    pub wrong: String,
+}
+
+/// The header's list, the first one first.
+pub fn refusals() -> &'static [Meaning] {
+    static LISTED: OnceLock<Vec<Meaning>> = OnceLock::new();
+    LISTED.get_or_init(|| listed(include_str!("../../../include/justification.h")))
+}
+
+/// What the header says of this refusal.
+pub fn meaning(number: u16) -> &'static Meaning {
+    let known = refusals().iter().find(|refusal| refusal.number == number);
+    known.expect("the header lists every refusal")
+}
+
+/// The macro's entries: `REFUSAL(number, name, counts, meaning)`, the last of one literal or more.
+fn listed(header: &str) -> Vec<Meaning> {
+    let (_, list) = header.split_once("#define JUSTIFICATION_REFUSALS(REFUSAL)").expect("a list");
+    let (list, _) = list.split_once("\n\n").expect("its end");
+    let entries = list.split("REFUSAL(").skip(1).map(|entry| {
+        let (number, rest) = entry.split_once(',').expect("a number");
+        let mut words = literals(rest).into_iter();
+        let counts = words.next().expect("what the place counts");
+        Meaning { number: number.parse().expect("a number"), counts, wrong: words.collect() }
+    });
+    entries.collect()
+}
+
+/// The string literals of a piece of C.
+fn literals(source: &str) -> Vec<String> {
+    let mut found: Vec<String> = Vec::new();
+    let (mut inside, mut escaped) = (false, false);
+    for letter in source.chars() {
+        match (inside, escaped, letter) {
+            (true, false, '\\') => escaped = true,
+            (_, false, '"') => {
+                inside = !inside;
+                if inside {
+                    found.push(String::new());
+                }
+            }
+            (true, _, _) => {
+                found.last_mut().expect("it is open").push(letter);
+                escaped = false;
+            }
+            _ => (),
+        }
+    }
+    found
+}
 
 /// The verdict in a sentence, and for a pass one for each entry of the room.
 pub fn words(verdict: Verdict, room: &[u16]) -> Vec<String> {
@@ -59,10 +90,10 @@ fn passed(obligations: usize, rows: usize, room: &[u16]) -> Vec<String> {
 }
 
 fn refused(number: u16, place: u16) -> String {
-    let (counts, meaning) = REFUSALS[number as usize - 1];
-    match (counts, PARTS.get(place as usize)) {
-        ("", _) => meaning.to_string(),
-        ("Part", Some(part)) => format!("Part {place} ({part}): {meaning}"),
-        _ => format!("{counts} {place}: {meaning}"),
+    let Meaning { counts, wrong, .. } = meaning(number);
+    match (counts.as_str(), PARTS.get(place as usize)) {
+        ("", _) => wrong.to_string(),
+        ("Part", Some(part)) => format!("Part {place} ({part}): {wrong}"),
+        _ => format!("{counts} {place}: {wrong}"),
     }
 }

@@ -1,14 +1,9 @@
--- Laws of case files.
-pub mod Spans
-pub mod Views
-pub mod Adjoining
-pub mod Same
-pub mod Struck
-pub mod Parting
-pub mod Admitting
-pub mod Naming
-pub mod Booking
-pub mod Looking
-pub mod Seeing
-pub mod Named
+-- Laws of case files. Callers cite Laws and LentCaseLaws alone.
+pub mod AdmissionBranches
+pub mod NumberAnswers
+pub mod BookOfFile
+pub mod ObserverLists
+pub mod SeenTable
+pub mod NamedFormulas
 pub mod Laws
+pub mod LentCaseLaws

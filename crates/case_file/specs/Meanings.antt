@@ -1,22 +1,15 @@
 -- What the code's types stand for: each case as the definition's.
 use mathlib.Core.List.{List}
-use Rattle.words.specs.Checks.{Checked, accepts, refuses}
-use Rattle.formula_book.specs.Formulas.{Formula}
-use Rattle.formula_book.specs.Book.{treeIn}
-use Rattle.case_file.specs.Views.{RowView, hidden, struck, shows}
+use Rattle.definition.specs.13-Formulas.{Formula}
+use Rattle.definition.specs.14-Book.{treeIn}
+use Rattle.definition.specs.16-Views.{RowView, hidden, struck, shows}
 use Rattle.case_file.specs.Seen.{ListAnswer, faulty, unseen, seen, RowAnswer, bad, good}
-use Rattle.case_file.specs.declared.admission.Admission.{Admission}
-use Rattle.case_file.specs.declared.admission.Admission.the-variants.{Admitted, Refused}
 use Rattle.case_file.specs.declared.log.Listed.{Listed}
 use Rattle.case_file.specs.declared.log.Listed.the-variants as listed
 use Rattle.case_file.specs.declared.log.Told.{Told}
 use Rattle.case_file.specs.declared.log.Told.the-variants as told
 use Rattle.case_file.specs.declared.log.View.{View}
 use Rattle.case_file.specs.declared.log.View.the-variants as view
-
-unfoldable pub answerMeant : Admission → Checked (Unit {0})
-answerMeant Admitted = accepts tt
-answerMeant (Refused n p) = refuses n p
 
 unfoldable pub listedMeant : Listed → ListAnswer
 listedMeant listed.Faulty = faulty

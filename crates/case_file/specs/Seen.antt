@@ -5,13 +5,15 @@ use mathlib.Core.Path.{_≡_}
 use mathlib.Core.List.{List}
 use lib.ListN.{length, getD}
 use lib.Dec.{eqb}
-use Rattle.words.specs.Words.{absent}
-use Rattle.words.specs.Ranges.{any}
-use Rattle.words.specs.Lists.{Kept}
-use Rattle.formula_book.specs.Formulas.{Formula}
-use Rattle.formula_book.specs.Book.{treeIn}
-use Rattle.case_file.specs.Records.{formulas, rowAction, rowFrom, rowCount, observer, badObserver, badLogRow}
-use Rattle.case_file.specs.Views.{RowView, hidden, struck, shows, isSeen}
+use Rattle.definition.specs.01-Words.{absent}
+use Rattle.definition.specs.02-Ranges.{any, lowest}
+use Rattle.definition.specs.03-Lists.{Kept}
+use Rattle.definition.specs.04-Checks.{Checked, accepts, refuses}
+use Rattle.definition.specs.11-Layout.{log-part, count}
+use Rattle.definition.specs.13-Formulas.{Formula}
+use Rattle.definition.specs.14-Book.{treeIn}
+use Rattle.definition.specs.15-Records.{formulas, rowAction, rowFrom, rowCount, observer, badObserver, badLogRow}
+use Rattle.definition.specs.16-Views.{RowView, hidden, struck, shows, isSeen}
 
 -- What the table has for a hidden row. No formula has this number.
 abbrev pub hiddenCode : ℕ
@@ -46,3 +48,11 @@ pub data RowAnswer : Type 0 where
 unfoldable pub rowAnswer : List ℕ → ℕ → RowAnswer
 rowAnswer s k =
     cond (badLogRow s (formulas s) k) bad (good (viewCode (isSeen s k) (rowAction s k)) (rowFrom s k + rowCount s k))
+
+-- The rows that get entries: those before the first bad one, and none where a run before check 5 refuses.
+unfoldable pub firstBadRow : List ℕ → ℕ
+firstBadRow s = lowest (badLogRow s (formulas s)) (count s log-part) 0
+
+unfoldable pub rowsAfter : Checked (Unit {0}) → List ℕ → ℕ
+rowsAfter (accepts x) s = firstBadRow s
+rowsAfter (refuses n p) s = 0

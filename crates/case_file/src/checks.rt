@@ -1,26 +1,31 @@
 // Checks 6 to 9: the conditions, the obligations, the labels, and what is audited.
-use crate::layout::CONDITIONS;
-use crate::layout::OBLIGATIONS;
-use crate::layout::count_of;
 use crate::numbers::closed_action;
 use crate::numbers::closed_policy;
 use crate::numbers::ground_action;
 use crate::numbers::ground_predicate;
-use crate::records::action_of;
-use crate::records::agent_of;
-use crate::records::condition_formula;
-use crate::records::label_formula;
-use crate::records::label_mark;
-use crate::records::obligation_action;
-use crate::records::obligation_mark;
-use formula_book::Term;
+use case_parts::CONDITIONS;
+use case_parts::LABELS;
+use case_parts::OBLIGATIONS;
+use case_parts::action_of;
+use case_parts::agent_of;
+use case_parts::condition_formula;
+use case_parts::count_of;
+use case_parts::label_formula;
+use case_parts::label_mark;
+use case_parts::obligation_action;
+use case_parts::obligation_mark;
+use formula_rows::Term;
+use words::Failure;
 ghost use mathlib.Core.Path.{_≡_};
 ghost use Prim.Native.Nat.{_<_, _≤_};
-ghost use Rattle.words.specs.Ranges.{lowest};
-ghost use Rattle.case_file.specs.Layout.{count, condition-part, obligation-part, label-part};
-ghost use Rattle.case_file.specs.Parts.{Parted, Booked};
-ghost use Rattle.case_file.specs.Records.{formulas as formulasOf, isDuty, badCondition, badObligation, badLabel, badAudit};
-ghost use Rattle.case_file.specs.Answers.{badEntry};
+ghost use Rattle.definition.specs.02-Ranges.{lowest};
+ghost use Rattle.definition.specs.04-Checks.{inOrder};
+ghost use Rattle.definition.specs.11-Layout.{count, condition-part, obligation-part, label-part};
+ghost use Rattle.definition.specs.18-Admission.{Parted};
+ghost use Rattle.case_file.specs.Booked.{Booked};
+ghost use Rattle.definition.specs.15-Records.{formulas as formulasOf, isDuty, badCondition, badObligation, badLabel, badAudit, recordChecks};
+ghost use Rattle.words.specs.Meanings.{failureMeant};
+ghost use Rattle.case_file.specs.Entries.{badEntry};
 
 // Check 6 of entry `k`. An absent condition is no fault.
 fn bad_condition(file: &[u8], book: &[u8], formulas: usize, k: usize) -> bool
@@ -92,7 +97,7 @@ fn bad_entry(file: &[u8], book: &[u8], formulas: usize, p: usize, k: usize) -> b
 }
 
 // The first bad entry of part `p`, or the number of its entries.
-pub fn first_bad(file: &[u8], book: &[u8], formulas: usize, p: usize) -> usize
+fn first_bad(file: &[u8], book: &[u8], formulas: usize, p: usize) -> usize
     requires { ⌜ Parted (now file) × Booked (now file) (now book) formulas ⌝ }
     requires { ⌜ (condition-part ≤ p) × (p ≤ label-part) ⌝ }
     ensures { λ r. ⌜ r ≡ lowest (badEntry (now (file .entry)) (formulasOf (now (file .entry))) p) (count (now (file .entry)) p) 0 ⌝ }
@@ -109,7 +114,7 @@ pub fn first_bad(file: &[u8], book: &[u8], formulas: usize, p: usize) -> usize
 }
 
 // Check 9: is the agent no agent, or the action no ground action?
-pub fn bad_audit(file: &[u8], book: &[u8], formulas: usize) -> bool
+fn bad_audit(file: &[u8], book: &[u8], formulas: usize) -> bool
     requires { ⌜ Parted (now file) × Booked (now file) (now book) formulas ⌝ }
     ensures { λ r. ⌜ r ≡ badAudit (now (file .entry)) (formulasOf (now (file .entry))) ⌝ }
 {
@@ -119,4 +124,27 @@ pub fn bad_audit(file: &[u8], book: &[u8], formulas: usize) -> bool
     }
     let action = action_of(file);
     !ground_action(book, formulas, action)
+}
+
+// Checks 6 to 9.
+pub fn check_records(file: &[u8], book: &[u8], formulas: usize) -> Failure
+    requires { ⌜ Parted (now file) × Booked (now file) (now book) formulas ⌝ }
+    ensures { λ r. ⌜ failureMeant r ≡ inOrder (recordChecks (now (file .entry))) ⌝ }
+{
+    let condition = first_bad(file, book, formulas, CONDITIONS);
+    if condition < count_of(file, CONDITIONS) {
+        return Failure::At(6, condition as u16);
+    }
+    let obligation = first_bad(file, book, formulas, OBLIGATIONS);
+    if obligation < count_of(file, OBLIGATIONS) {
+        return Failure::At(7, obligation as u16);
+    }
+    let label = first_bad(file, book, formulas, LABELS);
+    if label < count_of(file, LABELS) {
+        return Failure::At(8, label as u16);
+    }
+    if bad_audit(file, book, formulas) {
+        return Failure::At(9, 0);
+    }
+    Failure::None
 }

@@ -1,47 +1,14 @@
-// Case files: the header, the parts, the records, and checks 1 to 9.
+// Case files: what their numbers name, the log, the records, and checks 1 to 9 in order.
 mod admission;
 mod checks;
-mod exports;
-mod layout;
 mod log;
 mod numbers;
-mod records;
 
-pub use admission::Admission;
 pub use admission::admit;
 pub use admission::admit_into;
-pub use layout::CONDITIONS;
-pub use layout::FORMULAS;
-pub use layout::LABELS;
-pub use layout::LOG;
-pub use layout::OBLIGATIONS;
-pub use layout::OBSERVERS;
-pub use layout::PREMISES;
-pub use layout::STEPS;
-pub use layout::count_of;
-pub use layout::field;
-pub use layout::part;
 pub use log::View;
 pub use log::view_at;
 pub use numbers::closed_action;
 pub use numbers::closed_policy;
 pub use numbers::ground_action;
 pub use numbers::ground_predicate;
-pub use records::action_of;
-pub use records::agent_of;
-pub use records::bad_span;
-pub use records::condition_formula;
-pub use records::label_formula;
-pub use records::label_mark;
-pub use records::obligation_action;
-pub use records::obligation_mark;
-pub use records::observer;
-pub use records::premise_step;
-pub use records::row_action;
-pub use records::row_count;
-pub use records::row_from;
-pub use records::step_argument;
-pub use records::step_count;
-pub use records::step_formula;
-pub use records::step_from;
-pub use records::step_rule;

@@ -1,28 +1,32 @@
 // The log rows: check 5, and the table of what the agent sees of each row.
-use crate::layout::LOG;
-use crate::layout::OBSERVERS;
-use crate::layout::count_of;
 use crate::numbers::ground_action;
-use crate::records::agent_of;
-use crate::records::bad_span;
-use crate::records::observer;
-use crate::records::row_action;
-use crate::records::row_count;
-use crate::records::row_from;
-use formula_book::Sort;
-use formula_book::Term;
+use case_parts::LOG;
+use case_parts::OBSERVERS;
+use case_parts::agent_of;
+use case_parts::bad_span;
+use case_parts::count_of;
+use case_parts::observer;
+use case_parts::row_action;
+use case_parts::row_count;
+use case_parts::row_from;
+use formula_rows::Sort;
+use formula_rows::Term;
+use words::Failure;
 ghost use mathlib.Core.Path.{_≡_};
 ghost use mathlib.Core.List.{List};
 ghost use Prim.Native.Nat.{_+_, _<_, _≤_};
 ghost use lib.ListN.{length, getD};
-ghost use Rattle.words.specs.Ranges.{lowest};
-ghost use Rattle.formula_book.specs.Formulas.{Formula};
-ghost use Rattle.formula_book.specs.Book.{book as trees};
-ghost use Rattle.formula_book.specs.Admission.{admitted, bookAnswer};
-ghost use Rattle.case_file.specs.Layout.{log-part, observer-part, count};
-ghost use Rattle.case_file.specs.Records.{rowFrom, rowCount, spanDue, badAction, badLogRow, formulas as formulasOf};
-ghost use Rattle.case_file.specs.Parts.{Parted, Booked};
-ghost use Rattle.case_file.specs.Seen.{codeView, SeenUpTo, listAnswer, rowAnswer};
+ghost use Rattle.definition.specs.02-Ranges.{lowest};
+ghost use Rattle.definition.specs.04-Checks.{inOrder};
+ghost use Rattle.definition.specs.13-Formulas.{Formula};
+ghost use Rattle.definition.specs.14-Book.{book as trees};
+ghost use Rattle.formula_book.specs.AdmittedBooks.{AdmittedBook};
+ghost use Rattle.definition.specs.11-Layout.{log-part, observer-part, count};
+ghost use Rattle.definition.specs.15-Records.{rowFrom, rowCount, spanDue, badAction, badLogRow, logChecks, formulas as formulasOf};
+ghost use Rattle.definition.specs.18-Admission.{Parted};
+ghost use Rattle.words.specs.Meanings.{failureMeant};
+ghost use Rattle.case_file.specs.Booked.{Booked};
+ghost use Rattle.case_file.specs.Seen.{codeView, SeenUpTo, listAnswer, rowAnswer, firstBadRow};
 ghost use Rattle.case_file.specs.Meanings.{listedMeant, toldMeant, viewMeant};
 
 // What a list of observers says of its row.
@@ -80,7 +84,7 @@ fn look(file: &[u8], agent: u16, from: usize, len: usize) -> Listed
 
 // Is the number neither absent nor a ground action's?
 fn bad_action(book: &[u8], formulas: usize, action: u16) -> bool
-    requires { ⌜ bookAnswer (now book) ≡ admitted formulas ⌝ }
+    requires { ⌜ AdmittedBook (now book) formulas ⌝ }
     ensures { λ r. ⌜ r ≡ badAction (trees (now (book .entry))) action ⌝ }
 {
     if action == Term::ABSENT {
@@ -115,7 +119,7 @@ fn tell_row(file: &[u8], book: &[u8], formulas: usize, due: usize, k: usize) -> 
 }
 
 // The lowest bad row, or the number of rows. The table's entry of each row below it becomes what the agent sees of the row; the others stay.
-pub fn see_rows(file: &[u8], book: &[u8], formulas: usize, views: &mut [u16; 1024]) -> usize
+fn see_rows(file: &[u8], book: &[u8], formulas: usize, views: &mut [u16; 1024]) -> usize
     requires { ⌜ Parted (now file) × Booked (now file) (now book) formulas ⌝ }
     requires { ⌜ length (now views) ≡ 1024 ⌝ }
     ensures { λ r. ⌜ (r ≡ lowest (badLogRow (now (file .entry)) (formulasOf (now (file .entry)))) (count (now (file .entry)) log-part) 0) × SeenUpTo (now (file .entry)) r (now (views .entry)) (now (views .exit)) ⌝ }
@@ -136,6 +140,19 @@ pub fn see_rows(file: &[u8], book: &[u8], formulas: usize, views: &mut [u16; 102
         k += 1;
     }
     n
+}
+
+// Check 5. The table gets what the agent sees of each row before the first bad one.
+pub fn check_log(file: &[u8], book: &[u8], formulas: usize, views: &mut [u16; 1024]) -> Failure
+    requires { ⌜ Parted (now file) × Booked (now file) (now book) formulas ⌝ }
+    requires { ⌜ length (now views) ≡ 1024 ⌝ }
+    ensures { λ r. ⌜ (failureMeant r ≡ inOrder (logChecks (now (file .entry)))) × SeenUpTo (now (file .entry)) (firstBadRow (now (file .entry))) (now (views .entry)) (now (views .exit)) ⌝ }
+{
+    let row = see_rows(file, book, formulas, views);
+    if row < count_of(file, LOG) {
+        return Failure::At(5, row as u16);
+    }
+    Failure::None
 }
 
 // What the agent sees of row `k`, by the table.

@@ -1,20 +1,20 @@
 // What the number of a formula names. Any number is answered: one beyond the book names none.
 ghost use mathlib.Core.Path.{_≡_};
 ghost use mathlib.Core.Bool.{_&&_};
-ghost use Rattle.formula_book.specs.Formulas.{isPolicy, isAction, isPredicate, closed, ground};
-ghost use Rattle.formula_book.specs.Book.{treeIn, book as trees};
-ghost use Rattle.formula_book.specs.Admission.{admitted, bookAnswer};
-ghost use Rattle.case_file.specs.Records.{isGroundAction};
+ghost use Rattle.definition.specs.13-Formulas.{isPolicy, isAction, isPredicate, closed, ground};
+ghost use Rattle.definition.specs.14-Book.{treeIn, book as trees};
+ghost use Rattle.formula_book.specs.AdmittedBooks.{AdmittedBook};
+ghost use Rattle.definition.specs.15-Records.{isGroundAction};
 
 pub fn ground_action(book: &[u8], rows: usize, n: u16) -> bool
-    requires { ⌜ bookAnswer (now book) ≡ admitted rows ⌝ }
+    requires { ⌜ AdmittedBook (now book) rows ⌝ }
     ensures { λ r. ⌜ r ≡ isGroundAction (treeIn (trees (now (book .entry))) n) ⌝ }
 {
     let at = n as usize;
     if rows <= at {
         return false;
     }
-    let row = formula_book::row_at(book, at);
+    let row = formula_rows::row_at(book, at);
     if row.kind < 8 {
         return false;
     }
@@ -22,14 +22,14 @@ pub fn ground_action(book: &[u8], rows: usize, n: u16) -> bool
 }
 
 pub fn ground_predicate(book: &[u8], rows: usize, n: u16) -> bool
-    requires { ⌜ bookAnswer (now book) ≡ admitted rows ⌝ }
+    requires { ⌜ AdmittedBook (now book) rows ⌝ }
     ensures { λ r. ⌜ r ≡ (isPredicate (treeIn (trees (now (book .entry))) n) && ground (treeIn (trees (now (book .entry))) n)) ⌝ }
 {
     let at = n as usize;
     if rows <= at {
         return false;
     }
-    let row = formula_book::row_at(book, at);
+    let row = formula_rows::row_at(book, at);
     if row.kind != 0 {
         return false;
     }
@@ -37,14 +37,14 @@ pub fn ground_predicate(book: &[u8], rows: usize, n: u16) -> bool
 }
 
 pub fn closed_policy(book: &[u8], rows: usize, n: u16) -> bool
-    requires { ⌜ bookAnswer (now book) ≡ admitted rows ⌝ }
+    requires { ⌜ AdmittedBook (now book) rows ⌝ }
     ensures { λ r. ⌜ r ≡ (isPolicy (treeIn (trees (now (book .entry))) n) && closed (treeIn (trees (now (book .entry))) n)) ⌝ }
 {
     let at = n as usize;
     if rows <= at {
         return false;
     }
-    let row = formula_book::row_at(book, at);
+    let row = formula_rows::row_at(book, at);
     if 8 <= row.kind {
         return false;
     }
@@ -52,14 +52,14 @@ pub fn closed_policy(book: &[u8], rows: usize, n: u16) -> bool
 }
 
 pub fn closed_action(book: &[u8], rows: usize, n: u16) -> bool
-    requires { ⌜ bookAnswer (now book) ≡ admitted rows ⌝ }
+    requires { ⌜ AdmittedBook (now book) rows ⌝ }
     ensures { λ r. ⌜ r ≡ (isAction (treeIn (trees (now (book .entry))) n) && closed (treeIn (trees (now (book .entry))) n)) ⌝ }
 {
     let at = n as usize;
     if rows <= at {
         return false;
     }
-    let row = formula_book::row_at(book, at);
+    let row = formula_rows::row_at(book, at);
     if row.kind < 8 {
         return false;
     }

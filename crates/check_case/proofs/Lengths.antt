@@ -4,9 +4,8 @@ use mathlib.Core.Path.{_≡_}
 use mathlib.Core.List.{List, [], _∷_}
 use native.Mathlib.Omega.{arith}
 use lib.ListN.{length, take, drop, length-append, length-take, length-drop}
-use Rattle.justification.specs.Outcome.{Verdict, passed, none-owed, refused}
-use Rattle.check_case.specs.Text.{line, pair, space}
-use Rattle.check_case.specs.Report.{lines, verdictLine, entryLines, reportText, case-word, duty-word, row-word, passed-word, refused-word}
+use Rattle.definition.specs.31-Outcome.{Verdict, passed, none-owed, refused}
+use Rattle.definition.specs.33-Text.{line, pair, space, lines, verdictLine, entryLines, reportText, case-word, duty-word, row-word, passed-word, refused-word}
 use Rattle.check_case.proofs.Numerals.{numeral-most}
 
 pub line-most : (word : List ℕ) (n : ℕ) → length (line word n) ≤ length word + 6

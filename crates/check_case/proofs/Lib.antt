@@ -1,6 +1,6 @@
--- Laws of what the program prints.
-pub mod Writing
+-- Laws of what the program reads and prints.
+pub mod WrittenText
 pub mod Numerals
 pub mod Lines
-pub mod Reading
+pub mod ReadBytes
 pub mod Lengths

@@ -5,9 +5,8 @@ use mathlib.Core.List.{List, [], _∷_, _++_, append-nil, append-assoc}
 use native.Mathlib.Numerals.{add-one}
 use lib.ListN.{length, take, drop, getD}
 use lib.Seq.{take-suc}
-use Rattle.check_case.specs.Text.{line}
-use Rattle.justification.specs.Outcome.{passed}
-use Rattle.check_case.specs.Report.{lines, entryLines, duty-word, row-word}
+use Rattle.definition.specs.31-Outcome.{passed}
+use Rattle.definition.specs.33-Text.{line, lines, entryLines, duty-word, row-word}
 
 lines-snoc : (word ns : List ℕ) (n : ℕ) → lines word (ns ++ (n ∷ [])) ≡ lines word ns ++ line word n
 unfolding lines

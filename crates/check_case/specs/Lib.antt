@@ -1,4 +1,2 @@
--- What the program prints.
 pub mod Input
-pub mod Text
-pub mod Report
+pub mod Written

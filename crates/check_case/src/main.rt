@@ -6,8 +6,8 @@ mod text;
 ghost use Prim.Native.Nat.{_≤_};
 ghost use lib.ListN.{length};
 ghost use Rattle.io.specs.Counts.{Counts};
-ghost use Rattle.check_case.specs.Text.{Written};
-ghost use Rattle.check_case.specs.Report.{answerText};
+ghost use Rattle.check_case.specs.Written.{Written};
+ghost use Rattle.definition.specs.33-Text.{answerText};
 use input::Input;
 use input::read_case;
 use libc::STDERR_FILENO;
@@ -22,7 +22,7 @@ fn answer(case: &[u8], text: &mut [u8]) -> usize
     ensures { λ r. ⌜ Written (now (text .entry)) 0 (answerText (now (case .entry))) (now (text .exit)) r ⌝ }
 {
     let mut room = [0u16; 1088];
-    let verdict = justification::check(case, &mut room);
+    let verdict = checker::check(case, &mut room);
     report(case.len() as u16, verdict, &room, text)
 }
 

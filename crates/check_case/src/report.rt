@@ -2,13 +2,13 @@
 use crate::text::put_line;
 use crate::text::put_pair;
 use crate::text::put_word;
-use justification::Verdict;
+use checker::Verdict;
 ghost use Prim.Native.Nat.{_+_, _*_, _≤_};
 ghost use mathlib.Core.Path.{_≡_};
 ghost use lib.ListN.{length, take, drop};
-ghost use Rattle.justification.specs.Meanings.{verdictMeant};
-ghost use Rattle.check_case.specs.Text.{Written};
-ghost use Rattle.check_case.specs.Report.{lines, verdictLine, entryLines, reportText};
+ghost use Rattle.checker.specs.Meanings.{verdictMeant};
+ghost use Rattle.check_case.specs.Written.{Written};
+ghost use Rattle.definition.specs.33-Text.{lines, verdictLine, entryLines, reportText};
 
 // The first entries, so many as there are, whatever the count.
 fn first(entries: &[u16], count: u16) -> &[u16]

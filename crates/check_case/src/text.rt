@@ -1,7 +1,8 @@
 // Writing words and numbers into a buffer, one after the other. Each function answers where its text ends.
 ghost use Prim.Native.Nat.{_+_, _≤_};
 ghost use lib.ListN.{length};
-ghost use Rattle.check_case.specs.Text.{Written, numeral, line, pair};
+ghost use Rattle.check_case.specs.Written.{Written};
+ghost use Rattle.definition.specs.33-Text.{numeral, line, pair};
 
 // The bytes of a word.
 pub fn put_word(word: &[u8], at: usize, out: &mut [u8]) -> usize

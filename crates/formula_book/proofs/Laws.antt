@@ -1,69 +1,52 @@
 -- What callers of this library may cite, and they cite this file alone: what `admit`'s answer says of the rows, a row's fields from its tree and the tree from its fields, one number for a tree, and what each answer about a formula says of it. Assumes nothing.
 use Prim.Native.Nat.{ℕ, _-_, _≤_, _<_, _%_}
 use mathlib.Core.Path.{_≡_, refl, ap, _∙_}
-use mathlib.Core.Bool.{Bool, true, false, cond, not, false≢true}
-use mathlib.Core.List.{List}
+use mathlib.Core.Bool.{Bool, true, false, cond, not}
+use mathlib.Core.List.{List, _∷_}
 use lib.ListN.{length, List·getD-eq-default}
 use native.Mathlib.Omega.{arith}
 use lib.Dec.{eqb, ltb, leb}
 use borrow.Author.Tests.{ltb-false, eqb-true, eq-eqb}
-use Rattle.words.specs.Words.{absent}
-use Rattle.words.proofs.Tests.{or-false, not-both, one-answer}
-use Rattle.words.proofs.Searches.{passed-beyond}
-use Rattle.formula_book.specs.Terms.{agents, data-objects, object, parameter, variable, absent-term, no-term, classOf, isObject, sameSort}
-use Rattle.formula_book.specs.Formulas.{Formula, no-formula, same, isPolicy, isAction, isPredicate, nodes}
-use Rattle.formula_book.specs.Book.{Row, rowBytes, rowAt, bookRows, treeIn, treeOf, trees, book, badFormula, sameRow, repeatsLower}
-use Rattle.formula_book.specs.Nodes.{GoodRow}
-use Rattle.formula_book.specs.Admission.{BookAnswer, admitted, misshapen, bad-row, repeated-row, isMisshapen, firstBad, firstRepeat, bookAnswer}
-use Rattle.formula_book.proofs.Instancing.{shape-tree}
-use Rattle.formula_book.proofs.OneNumber.{Has, fields}
-use Rattle.formula_book.proofs.Trees.{trees-length, row-shape, row-small}
-use Rattle.formula_book.proofs.Fielding.{shape-policy, shape-action, shape-predicate}
-use Rattle.formula_book.proofs.Comparing.{same-as-row}
-pub use Rattle.formula_book.proofs.Trees.{Shape}
-unfoldable pub use Rattle.formula_book.proofs.OneNumber.{fieldsOf}
-pub use Rattle.formula_book.proofs.OneNumber.{one-number}
-pub use Rattle.formula_book.proofs.Comparing.{Proper, other-kind, predicate-proper, owns-proper, says-proper, and-proper, implies-proper, each-use-proper, once-proper, says-kind, and-kind, for-all-kind, implies-kind, communicates-kind, creates-kind, user-action-kind, body-policy, put-policy}
-pub use Rattle.formula_book.proofs.Same.{same-is, same-true, same-of, same-refl, same-false}
-pub use Rattle.formula_book.proofs.Occurrences.{has-true, mentions-is, mentions-not, closed-is, data-variable-is, policy-is, parameter-is, instance-is}
-pub use Rattle.formula_book.proofs.Data.{data-ascend, data-among}
-pub use Rattle.formula_book.proofs.Walking.{bound-present, free-present, parameter-present, data-variable-present, term-present}
-pub use Rattle.formula_book.proofs.Fielding.{policy-here, action-here, good-inside}
-
-isAdmitted : BookAnswer → Bool
-isAdmitted (admitted n) = true
-isAdmitted misshapen = false
-isAdmitted (bad-row k) = false
-isAdmitted (repeated-row k) = false
-
--- The last of four answers.
-last : (m b r : Bool) (i j k n : ℕ) → cond m misshapen (cond b (bad-row i) (cond r (repeated-row j) (admitted k))) ≡ admitted n → (m ≡ false) × ((b ≡ false) × ((r ≡ false) × (k ≡ n)))
-unfolding isAdmitted
-last true b r i j k n e = absurd (false≢true (ap isAdmitted e))
-last false true r i j k n e = absurd (false≢true (ap isAdmitted e))
-last false false true i j k n e = absurd (false≢true (ap isAdmitted e))
-last false false false i j k n e = (refl, (refl, (refl, cc)))
+use Rattle.definition.proofs.CheckLaws.{all-hold, by-number}
+use Rattle.definition.specs.01-Words.{absent}
+use Rattle.definition.specs.04-Checks.{single, AllHold}
+use Rattle.definition.specs.11-Layout.{formula-part, rowBytes, mostRecords}
+use Rattle.definition.proofs.Tests.{or-false, not-both, one-answer}
+use Rattle.definition.specs.12-Terms.{agents, data-objects, object, parameter, variable, absent-term, no-term, classOf, isObject, sameSort}
+use Rattle.definition.specs.13-Formulas.{Formula, no-formula, same, isPolicy, isAction, isPredicate, nodes}
+use Rattle.definition.specs.14-Book.{Row, rowAt, bookRows, treeIn, treeOf, trees, book, badFormula, sameRow, repeatsLower, isMisshapen, bookChecks, bookAdmission}
+use Rattle.formula_book.specs.GoodRows.{GoodRow}
+use Rattle.formula_book.specs.AdmittedBooks.{AdmittedBook}
+use Rattle.formula_walks.proofs.InstanceLaws.{shape-tree}
+use Rattle.definition.proofs.OneNumber.{Has, fields, fieldsOf, one-number}
+use Rattle.definition.proofs.Trees.{Shape, trees-length, row-shape, row-small}
+use Rattle.definition.proofs.TreeEquality.{same-is}
+use Rattle.formula_rows.proofs.RowKinds.{shape-policy, shape-action, shape-predicate}
+use Rattle.formula_book.proofs.RowComparison.{same-as-row}
+pub use Rattle.formula_book.proofs.RowComparison.{Proper, other-kind, predicate-proper, owns-proper, says-proper, and-proper, implies-proper, each-use-proper, once-proper, says-kind, and-kind, for-all-kind, implies-kind, communicates-kind, creates-kind, user-action-kind, body-policy, put-policy}
+pub use Rattle.formula_walks.proofs.WalkLaws.{bound-present, free-present, parameter-present, data-variable-present, term-present}
+pub use Rattle.formula_book.proofs.WalkedRows.{policy-here, action-here, good-inside}
 
 -- The laws of an admitted book of n rows.
-module _ (s : List ℕ) (n : ℕ) (is : bookAnswer s ≡ admitted n) where
-  parts : (isMisshapen s ≡ false) × ((ltb (firstBad s) (bookRows s) ≡ false) × ((ltb (firstRepeat s) (bookRows s) ≡ false) × (bookRows s ≡ n)))
-  unfolding bookAnswer
-  parts = last (isMisshapen s) (ltb (firstBad s) (bookRows s)) (ltb (firstRepeat s) (bookRows s)) (firstBad s) (firstRepeat s) (bookRows s) n is
+module _ (s : List ℕ) (n : ℕ) (is : AdmittedBook s n) where
+  passed : AllHold (single 2 formula-part (isMisshapen s) ∷ bookChecks s)
+  unfolding bookAdmission
+  passed = all-hold (single 2 formula-part (isMisshapen s) ∷ bookChecks s) (is .passes)
 
   pub admitted-count : bookRows s ≡ n
-  admitted-count = parts .1 .1 .1
+  admitted-count = is .count
 
   pub admitted-few : n ≤ 1024
-  unfolding isMisshapen
-  admitted-few = omega (arith, ltb-false 1024 (bookRows s) (or-false (not (eqb (length s % rowBytes) 0)) (ltb 1024 (bookRows s)) (parts .0) .1), admitted-count)
+  unfolding isMisshapen mostRecords
+  admitted-few = omega (arith, ltb-false 1024 (bookRows s) (or-false (not (eqb (length s % rowBytes) 0)) (ltb 1024 (bookRows s)) (passed .0) .1), admitted-count)
 
   pub admitted-good : (k : ℕ) → k < n → badFormula s (book s) k ≡ false
-  unfolding firstBad
-  admitted-good k below = passed-beyond (badFormula s (book s)) (bookRows s) (parts .1 .0) k (omega (arith, admitted-count))
+  unfolding bookChecks
+  admitted-good k below = by-number 3 (bookChecks s) (passed .1) .0 k (omega (arith, admitted-count))
 
   pub admitted-once : (k : ℕ) → k < n → repeatsLower s k ≡ false
-  unfolding firstRepeat
-  admitted-once k below = passed-beyond (repeatsLower s) (bookRows s) (parts .1 .1 .0) k (omega (arith, admitted-count))
+  unfolding bookChecks
+  admitted-once k below = by-number 4 (bookChecks s) (passed .1) .0 k (omega (arith, admitted-count))
 
   pub admitted-row : (row : ℕ) → row < n → GoodRow s row
   admitted-row row below =
@@ -119,12 +102,12 @@ module _ (s : List ℕ) (row : ℕ) (g : GoodRow s row) where
   row-predicate = shape-predicate (row-is s row g)
 
 -- A number beyond the book names no formula.
-pub beyond : (s : List ℕ) (n k : ℕ) → bookAnswer s ≡ admitted n → n ≤ k → treeIn (book s) k ≡ no-formula
+pub beyond : (s : List ℕ) (n k : ℕ) → AdmittedBook s n → n ≤ k → treeIn (book s) k ≡ no-formula
 unfolding book treeIn
 beyond s n k is le = List·getD-eq-default (trees s (bookRows s)) no-formula (omega (arith, trees-length s (bookRows s), admitted-count s n is))
 
 -- So a number whose tree passes a test that no-formula fails is one of the book.
-pub number-inside : (s : List ℕ) (n k : ℕ) (is : Formula → Bool) → bookAnswer s ≡ admitted n → is no-formula ≡ false → is (treeIn (book s) k) ≡ true → k < n
+pub number-inside : (s : List ℕ) (n k : ℕ) (is : Formula → Bool) → AdmittedBook s n → is no-formula ≡ false → is (treeIn (book s) k) ≡ true → k < n
 number-inside s n k is a none here =
     let within : n ≤ k → ⊥ = λ le. not-both here (ap is (beyond s n k a le) ∙ none) in
     omega (arith, within)

@@ -1,19 +1,8 @@
--- What the proofs of several functions use.
-pub mod Classes
-pub mod Same
-pub mod SameRows
-pub mod RowTrees
-pub mod Occurrences
-pub mod Data
-pub mod Places
-pub mod DataOrder
-pub mod Trees
-pub mod OneNumber
-pub mod Walking
-pub mod Fielding
-pub mod Sizing
-pub mod Replies
-pub mod DataWalking
-pub mod Instancing
-pub mod Comparing
+-- Laws of the formula book. Callers cite Laws alone.
+pub mod RowTreeLaws
+pub mod WalkedRows
+pub mod SizeLaws
+pub mod BookBranches
+pub mod RowComparison
 pub mod Laws
+pub mod Instances

@@ -1,12 +1,4 @@
-pub mod Terms
-pub mod Formulas
-pub mod DataSet
-pub mod Book
 pub mod RowTrees
-pub mod Occurrences
-pub mod Nodes
-pub mod Admission
-pub mod DataWalk
-pub mod Instances
-pub mod Meanings
-pub mod Exports
+pub mod Sizes
+pub mod GoodRows
+pub mod AdmittedBooks

@@ -4,7 +4,7 @@ use mathlib.Core.Path.{_≡_}
 use mathlib.Core.Bool.{true, false}
 use mathlib.Core.List.{List}
 use lib.ListN.{length, getD}
-use Rattle.formula_book.specs.Book.{Row, rowAt, repeatsLower}
+use Rattle.definition.specs.14-Book.{Row, rowAt, repeatsLower}
 use Rattle.formula_book.specs.declared.repeats.Spot.{Spot}
 use Rattle.formula_book.specs.declared.repeats.Spot.the-variants.{Repeated, Free}
 

@@ -1,22 +1,18 @@
 // Admission of a book: checks 3 and 4 over any bytes.
 use crate::fields::fields_fit;
-use crate::nodes::Node;
-use crate::nodes::node_of;
 use crate::repeats::first_repeat;
-use crate::rows::row_at;
+use formula_rows::Node;
+use formula_rows::node_of;
+use formula_rows::row_at;
+use words::Failure;
 ghost use mathlib.Core.Path.{_≡_};
 ghost use Prim.Native.Nat.{_≤_, _<_};
 ghost use lib.ListN.{length, getD};
-ghost use Rattle.formula_book.specs.Book.{bookRows};
-ghost use Rattle.formula_book.specs.Admission.{bookAnswer, firstBad, Sizing, nodeSize, ChildrenBelow, sizeAt};
-ghost use Rattle.formula_book.specs.Meanings.{nodeMeant, answerMeant};
-
-pub enum Admission {
-    Admitted(usize),
-    Misshapen,
-    BadRow(usize),
-    Repeats(usize),
-}
+ghost use Rattle.definition.specs.02-Ranges.{lowest};
+ghost use Rattle.definition.specs.14-Book.{bookRows, book as trees, badFormula, bookAdmission};
+ghost use Rattle.formula_book.specs.Sizes.{Sizing, nodeSize, ChildrenBelow, sizeAt};
+ghost use Rattle.formula_rows.specs.Meanings.{nodeMeant};
+ghost use Rattle.words.specs.Meanings.{failureMeant};
 
 // The nodes of row `x`, as the table has them.
 fn size_in(sizes: &[u8; 1024], x: u16) -> usize
@@ -69,7 +65,7 @@ fn size_at(book: &[u8], sizes: &[u8; 1024], k: usize) -> usize
 // The lowest bad row, or the number of rows, `n`.
 fn first_bad(book: &[u8], n: usize) -> usize
     requires { ⌜ (n ≡ bookRows (now book)) × (n ≤ 1024) ⌝ }
-    ensures { λ r. ⌜ r ≡ firstBad (now (book .entry)) ⌝ }
+    ensures { λ r. ⌜ r ≡ lowest (badFormula (now (book .entry)) (trees (now (book .entry)))) (bookRows (now (book .entry))) 0 ⌝ }
 {
     let mut sizes = [0u8; 1024];
     let mut k: usize = 0;
@@ -84,24 +80,24 @@ fn first_bad(book: &[u8], n: usize) -> usize
     n
 }
 
-// The answer to any bytes: admitted with the number of rows, or why not.
-pub fn admit(book: &[u8]) -> Admission
-    ensures { λ r. ⌜ answerMeant r ≡ bookAnswer (now (book .entry)) ⌝ }
+// Checks 3 and 4 of any bytes as a book. Bytes that are no whole rows, or too many, are what check 2 says of the formula part.
+pub fn admit(book: &[u8]) -> Failure
+    ensures { λ r. ⌜ failureMeant r ≡ bookAdmission (now (book .entry)) ⌝ }
 {
     let count = book.len() / 8;
     if book.len() % 8 != 0 {
-        return Admission::Misshapen;
+        return Failure::At(2, 0);
     }
     if 1024 < count {
-        return Admission::Misshapen;
+        return Failure::At(2, 0);
     }
     let bad = first_bad(book, count);
     if bad < count {
-        return Admission::BadRow(bad);
+        return Failure::At(3, bad as u16);
     }
     let again = first_repeat(book, count);
     if again < count {
-        return Admission::Repeats(again);
+        return Failure::At(4, again as u16);
     }
-    Admission::Admitted(count)
+    Failure::None
 }

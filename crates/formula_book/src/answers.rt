@@ -1,13 +1,20 @@
-// What callers ask of a formula of an admitted book, whatever its kind.
-use crate::occurs::action_has;
-use crate::occurs::policy_has;
-use crate::rows::row_at;
-use crate::sought::Sought;
+// What callers ask of a formula of an admitted book.
+use formula_rows::Sort;
+use formula_rows::Sought;
+use formula_rows::row_at;
+use formula_walks::action_has;
+use formula_walks::policy_data;
+use formula_walks::policy_has;
+use formula_walks::policy_instance;
 ghost use mathlib.Core.Path.{_≡_};
-ghost use Rattle.formula_book.specs.Formulas.{has, closed, ground};
-ghost use Rattle.formula_book.specs.Book.{treeIn, book as trees};
-ghost use Rattle.formula_book.specs.Nodes.{GoodRow, Present};
-ghost use Rattle.formula_book.specs.Meanings.{soughtMeant};
+ghost use mathlib.Core.Bool.{true};
+ghost use lib.ListN.{length};
+ghost use Rattle.definition.specs.13-Formulas.{isPolicy, same, put, has, closed, ground};
+ghost use Rattle.definition.specs.14-Book.{treeIn, book as trees};
+ghost use Rattle.formula_rows.specs.Meanings.{sortMeant, soughtMeant};
+ghost use Rattle.formula_walks.specs.DataWalk.{DataListed};
+ghost use Rattle.formula_walks.specs.WalkRows.{Present};
+ghost use Rattle.formula_book.specs.GoodRows.{GoodRow};
 
 // Does what is looked for stand in formula `row`?
 pub fn formula_has(book: &[u8], w: Sought, row: usize) -> bool
@@ -39,4 +46,26 @@ pub fn is_ground(book: &[u8], row: usize) -> bool
         return !formula_has(book, Sought::Parameter, row);
     }
     false
+}
+
+// The data objects and data parameters of policy `row`, ascending without repeats, in the first entries of `set`; how many. The entries behind them stay as they were.
+pub fn data_of(book: &[u8], row: usize, set: &mut [u16; 192]) -> usize
+    requires { ⌜ GoodRow (now book) row × (isPolicy (treeIn (trees (now book)) row) ≡ true) ⌝ }
+    requires { ⌜ length (now set) ≡ 192 ⌝ }
+    ensures { λ r. ⌜ DataListed (treeIn (trees (now (book .entry))) row) (now (set .entry)) r (now (set .exit)) ⌝ }
+{
+    policy_data(book, row, set, 0)
+}
+
+// Is formula `row` the policy `body` with the term put in for the variable of a for-all over the sort?
+pub fn is_body_with(book: &[u8], sort: Sort, term: u16, body: usize, row: usize) -> bool
+    requires { ⌜ GoodRow (now book) body × (isPolicy (treeIn (trees (now book)) body) ≡ true) ⌝ }
+    requires { ⌜ GoodRow (now book) row ⌝ }
+    ensures { λ r. ⌜ r ≡ same (treeIn (trees (now (book .entry))) row) (put (sortMeant sort) term 0 (treeIn (trees (now (book .entry))) body)) ⌝ }
+{
+    let kind = row_at(book, row).kind;
+    if 8 <= kind {
+        return false;
+    }
+    policy_instance(book, sort, term, 0, body, row)
 }

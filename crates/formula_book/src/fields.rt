@@ -1,20 +1,20 @@
 // Check 3, the fields: has a row the code, terms and children that its kind has? The rows below it are not bad.
-use crate::occurs::policy_has;
-use crate::rows::Row;
-use crate::rows::row_at;
-use crate::sought::Sought;
-use crate::sought::has_sort;
-use crate::sought::is_term;
-use crate::terms::Sort;
-use crate::terms::Term;
+use formula_rows::Row;
+use formula_rows::Sort;
+use formula_rows::Sought;
+use formula_rows::Term;
+use formula_rows::has_sort;
+use formula_rows::is_term;
+use formula_rows::row_at;
+use formula_walks::policy_has;
 ghost use mathlib.Core.Path.{_≡_};
 ghost use mathlib.Core.List.{[], _∷_};
 ghost use Prim.Native.Nat.{_<_};
-ghost use Rattle.formula_book.specs.Terms.{agents, other};
+ghost use Rattle.definition.specs.12-Terms.{agents, other};
 ghost use mathlib.Core.Bool.{_&&_};
-ghost use Rattle.formula_book.specs.Book.{termsFirst, inPlace, policyBelow, actionBelow, sortOfCode, agentAndData, agentPolicyAgent, twoPolicies, sortAndBody, actionAndPolicy, fieldsFit, book as trees};
-ghost use Rattle.formula_book.specs.Admission.{GoodBelow};
-ghost use Rattle.formula_book.specs.Meanings.{rowMeant, sortMeant};
+ghost use Rattle.definition.specs.14-Book.{termsFirst, inPlace, policyBelow, actionBelow, sortOfCode, agentAndData, agentPolicyAgent, twoPolicies, sortAndBody, actionAndPolicy, fieldsFit, book as trees};
+ghost use Rattle.formula_book.specs.Sizes.{GoodBelow};
+ghost use Rattle.formula_rows.specs.Meanings.{rowMeant, sortMeant};
 
 // Up to two terms, absent ones last.
 fn two_terms(y: u16, z: u16) -> bool

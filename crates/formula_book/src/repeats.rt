@@ -1,13 +1,12 @@
 // Rows that repeat a lower one. The rows below the one at hand stand in binary trees, one for each sum. At each row of a tree the next bit of the key tells which branch to follow: a key has 64 bits, so a walk passes at most 65 rows, whatever the book.
+use formula_rows::Row;
 ghost use mathlib.Core.Path.{_≡_};
 ghost use Prim.Native.Nat.{_+_, _*_, _<_, _≤_};
 ghost use lib.ListN.{length};
-ghost use Rattle.words.specs.Ranges.{lowest};
-ghost use Rattle.formula_book.specs.Book.{repeatsLower};
-ghost use Rattle.formula_book.specs.Meanings.{rowMeant};
+ghost use Rattle.definition.specs.02-Ranges.{lowest};
+ghost use Rattle.definition.specs.14-Book.{repeatsLower};
+ghost use Rattle.formula_rows.specs.Meanings.{rowMeant};
 ghost use Rattle.formula_book.specs.RowTrees.{Bucket, keyOf, Linked, Spotted};
-use crate::rows;
-use crate::rows::Row;
 
 // What a row's walk through its tree comes to: a row that it repeats, or the slot that is free for it.
 enum Spot {
@@ -38,13 +37,13 @@ fn find_spot(book: &[u8], links: &[u16; 3072], k: usize) -> Spot
     requires { ⌜ (8 * k + 8 ≤ length (now book)) × (k < 1024) × Linked (now book) (now links) k ⌝ }
     ensures { λ r. ⌜ Spotted (now (book .entry)) (now (links .entry)) k r ⌝ }
 {
-    let row = rows::row_at(book, k);
+    let row = formula_rows::row_at(book, k);
     let mut slot = bucket(row);
     let mut rest = key(row);
     let mut link = links[slot] as usize;
     while link > 0 {
-        let lower = rows::row_at(book, link - 1);
-        if rows::same_row(lower, row) {
+        let lower = formula_rows::row_at(book, link - 1);
+        if formula_rows::same_row(lower, row) {
             return Spot::Repeated;
         }
         slot = 1022 + 2 * link + rest % 2;

@@ -1,16 +1,1 @@
-pub mod Rules
-pub mod Steps
-pub mod Outcome
-pub mod Account
-pub mod Demands
-pub mod Evaluation
-pub mod Desk
-pub mod Traps
-pub mod Hidden
-pub mod Tables
-pub mod Turns
-pub mod Policies
-pub mod Fitting
-pub mod Runs
 pub mod Meanings
-pub mod Ends

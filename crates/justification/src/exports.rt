@@ -1,40 +1,34 @@
 // What C and Rust programs call. include/justification.h is the manual.
-use crate::checker::check;
-use crate::verdict::VerdictNumbers;
-use case_file::Admission;
-use case_file::admit;
-ghost use Rattle.case_file.specs.Exports.{numbersOf as admissionNumbers};
-ghost use Rattle.justification.specs.Ends.{Answered, AdmissionAnswered};
-ghost use Rattle.justification.specs.Meanings.{numbersOf, numbersMeant, admissionMeant};
-
-#[repr(C)]
-pub struct AdmissionNumbers {
-    pub number: u16,
-    pub place: u16,
-}
+use crate::numbers::RunNumbers;
+use crate::numbers::VerdictNumbers;
+use crate::numbers::run_numbers;
+use crate::numbers::verdict_numbers;
+ghost use mathlib.Core.Path.{_≡_};
+ghost use Rattle.definition.specs.14-Book.{bookAdmission};
+ghost use Rattle.definition.specs.32-Numbers.{verdictNumbers, runNumbers};
+ghost use Rattle.definition.specs.45-Promises.{Answered, AdmissionAnswered};
+ghost use Rattle.justification.specs.Meanings.{verdictNumbersMeant, runNumbersMeant};
 
 // The verdict on any bytes, and the room after it.
 #[no_mangle]
 pub extern "C" fn justification_check(file: &[u8], room: &mut [u16]) -> VerdictNumbers
-    ensures { λ r. ⌜ Answered numbersOf (now (file .entry)) (now (room .entry)) (numbersMeant r) (now (room .exit)) ⌝ }
+    ensures { λ r. ⌜ Answered verdictNumbers (now (file .entry)) (now (room .entry)) (verdictNumbersMeant r) (now (room .exit)) ⌝ }
 {
-    check(file, room).numbers()
+    verdict_numbers(checker::check(file, room))
 }
 
-// The answer to any bytes as a case file: the number and place of the first of checks 1 to 9 that fails, or 0 and 0.
+// The answer to any bytes as a case file, by checks 1 to 9.
 #[no_mangle]
-pub extern "C" fn justification_admit(file: &[u8]) -> AdmissionNumbers
-    ensures { λ r. ⌜ AdmissionAnswered admissionNumbers (now (file .entry)) (admissionMeant r) ⌝ }
+pub extern "C" fn justification_admit(file: &[u8]) -> RunNumbers
+    ensures { λ r. ⌜ AdmissionAnswered runNumbers (now (file .entry)) (runNumbersMeant r) ⌝ }
 {
-    let answer = admit(file);
-    match answer {
-        Admission::Admitted => AdmissionNumbers {
-            number: 0,
-            place: 0,
-        },
-        Admission::Refused(number, place) => AdmissionNumbers {
-            number: number as u16,
-            place: place as u16,
-        },
-    }
+    run_numbers(case_file::admit(file))
+}
+
+// The answer to any bytes as a book, by checks 3 and 4: for the tests and the benchmark of the book alone.
+#[no_mangle]
+pub extern "C" fn formula_book_admit(book: &[u8]) -> RunNumbers
+    ensures { λ r. ⌜ runNumbersMeant r ≡ runNumbers (bookAdmission (now (book .entry))) ⌝ }
+{
+    run_numbers(formula_book::admit(book))
 }

@@ -10,9 +10,9 @@ use lib.Bits.{bitAnd, bitOr, bitXor, and-shr, or-shr, xor-shr, and-mod, or-mod, 
 use lib.Dec.{eqb, isEq}
 use lib.Pow.{pow-lt, pow-mono, shl-exact, shr-shr}
 use borrow.Author.Tests.{ne-eqb, eqb-false, not-true}
-use Rattle.words.specs.Ranges.{any, update}
-use Rattle.words.proofs.Tests.{not-both, one-answer}
-use Rattle.words.proofs.Ranges.{any-true, any-some}
+use Rattle.definition.specs.02-Ranges.{any, update}
+use Rattle.definition.proofs.Tests.{not-both, one-answer}
+use Rattle.definition.proofs.RangeLaws.{any-true, any-some}
 use Rattle.tables.specs.Sets.{labelsOf}
 
 -- The digit of n for label l, which is 0 or 1.

@@ -1,4 +1,4 @@
 -- Laws of sets and tables.
 pub mod Bits
-pub mod Assigning
-pub mod Listing
+pub mod Assignments
+pub mod ListedMembers

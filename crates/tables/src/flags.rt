@@ -4,7 +4,7 @@ ghost use mathlib.Core.Bool.{not};
 ghost use mathlib.Core.List.{_++_};
 ghost use Prim.Native.Nat.{_+_, _≤_};
 ghost use lib.ListN.{length, drop};
-ghost use Rattle.words.specs.Ranges.{lowest, members};
+ghost use Rattle.definition.specs.02-Ranges.{lowest, members};
 ghost use Rattle.tables.specs.Sets.{marks as marksOf};
 
 // The lowest of the first `n` that has none, or `n`.

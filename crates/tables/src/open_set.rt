@@ -2,7 +2,7 @@
 ghost use mathlib.Core.Path.{_≡_};
 ghost use mathlib.Core.Bool.{true, false, _&&_, _||_};
 ghost use Prim.Native.Nat.{_<_};
-ghost use Rattle.words.specs.Ranges.{any, update};
+ghost use Rattle.definition.specs.02-Ranges.{any, update};
 ghost use Rattle.tables.specs.Sets.{labelsOf};
 
 pub struct OpenSet {

@@ -1,8 +1,2 @@
--- Laws that every layer cites.
-pub mod Tests
-pub mod Lists
-pub mod Windows
-pub mod Ranges
+-- Laws of loops.
 pub mod Searches
-pub mod Checks
-pub mod Shifts

@@ -6,8 +6,8 @@ use mathlib.Core.Logic.{⊎-elim}
 use native.Mathlib.Nat.{eq-or-lt-of-le}
 use native.Mathlib.Omega.{arith}
 use lib.Dec.{ltb}
-use Rattle.words.specs.Ranges.{lowest}
-use Rattle.words.proofs.Ranges.{any-false, lowest-is, lowest-none, lowest-any}
+use Rattle.definition.specs.02-Ranges.{lowest}
+use Rattle.definition.proofs.RangeLaws.{any-false, lowest-is, lowest-none, lowest-any}
 
 -- The test holds at none of the numbers below k.
 pub record Passed (p : ℕ → Bool) (n k : ℕ) : Type 0 where

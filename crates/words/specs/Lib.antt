@@ -1,4 +1,1 @@
-pub mod Words
-pub mod Ranges
-pub mod Checks
-pub mod Lists
+pub mod Meanings

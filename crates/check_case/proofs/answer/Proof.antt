@@ -5,11 +5,11 @@ use mathlib.Core.List.{List}
 use native.Mathlib.Omega.{arith}
 use lib.ListN.{length}
 use lib.Seq.{length-take-le}
-use Rattle.justification.specs.Outcome.{outcome}
-use Rattle.justification.specs.Meanings.{verdictMeant}
-use Rattle.check_case.specs.Text.{Written}
-use Rattle.check_case.specs.Report.{reportText, lentRoom, answerText}
-use Rattle.check_case.proofs.Writing.{kept}
+use Rattle.definition.specs.31-Outcome.{outcome}
+use Rattle.checker.specs.Meanings.{verdictMeant}
+use Rattle.check_case.specs.Written.{Written}
+use Rattle.definition.specs.33-Text.{reportText, lentRoom, answerText}
+use Rattle.check_case.proofs.WrittenText.{kept}
 use Rattle.check_case.proofs.Lengths.{report-most}
 use borrow.Author.Needs.{needs}
 use Rattle.check_case.proofs.answer.Statement.{statement}

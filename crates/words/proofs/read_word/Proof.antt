@@ -3,7 +3,7 @@
 use Prim.Native.Nat.{_+_}
 use native.Mathlib.Omega.{arith}
 use borrow.Author.Needs.{needs}
-use Rattle.words.specs.Words.{word}
+use Rattle.definition.specs.01-Words.{word}
 use Rattle.words.proofs.read_word.Statement.{statement}
 use Rattle.words.proofs.read_word.Tie as tie
 

@@ -1,56 +1,49 @@
--- `admit_into` meets its contract: the two halves one after the other. Assumes nothing.
+-- `admit_into` meets its contract: checks 1 and 2, and then 3 to 9. Assumes nothing.
 use borrow.Author.Needs.{needs}
 use mathlib.Core.Path.{sym, ap, _∙_}
-use native.Mathlib.Omega.{arith}
-use Rattle.case_file.specs.Meanings.{answerMeant}
-use Rattle.case_file.proofs.Admitting.{refused-first, none-entered, first-passed, all-entered, first-parted, first-booked}
+use Rattle.definition.proofs.AdmissionLaws.{in-groups, layout-parted}
+use Rattle.definition.proofs.CheckLaws.{then-stops, then-goes-on, all-hold}
+use Rattle.definition.specs.11-Layout.{layoutChecks}
+use Rattle.words.specs.Meanings.{failureMeant}
+use Rattle.case_file.specs.AdmissionRuns.{beforeLog, fromLog, fromBook}
+use Rattle.case_file.proofs.AdmissionBranches.{none-entered, as-entered}
 use Rattle.case_file.proofs.admission.admit_into.Statement.{statement}
 use Rattle.case_file.proofs.admission.admit_into.Tie as tie
 
-first-checks-requires : tie.Need-first-checks-requires
-first-checks-requires c κs = search needs
+check-layout-requires : tie.Need-check-layout-requires
+check-layout-requires c κs = search needs
 
-enum-known-first : tie.Need-enum-known-first
-enum-known-first c = search needs
+enum-known-layout : tie.Need-enum-known-layout
+enum-known-layout c = search needs
 
 enum-told : tie.Need-enum-told
 enum-told c = search needs
 
-part-requires : tie.Need-part-requires
-unfolding answerMeant
-part-requires c κs = (first-parted _ (sym (ap answerMeant (c .enum-told .given .1)) ∙ c .before .before .first-checks .ensures), omega arith)
-
-count-of-requires : tie.Need-count-of-requires
-unfolding answerMeant
-count-of-requires c κs = (first-parted _ (sym (ap answerMeant (c .before .enum-told .given .1)) ∙ c .before .before .before .first-checks .ensures), omega arith)
-
-record-checks-requires : tie.Need-record-checks-requires
-unfolding answerMeant
-record-checks-requires c κs =
-    let ok = sym (ap answerMeant (c .before .before .before .enum-told .given .1)) ∙ c .before .before .before .before .before .first-checks .ensures in
-    ((first-parted _ ok, first-booked _ ok _ _ (c .before .before .part .ensures) (c .before .count-of .ensures .0)), c .before .before .before .before .before .before .before .pre)
+admit-parts-requires : tie.Need-admit-parts-requires
+unfolding failureMeant
+admit-parts-requires c κs =
+    let ok = sym (ap failureMeant (c .before .enum-told .given .1)) ∙ c .before .before .before .check-layout .ensures in
+    (layout-parted (all-hold (layoutChecks _) (sym ok)), c .before .before .before .before .before .pre)
 
 returns : tie.Need-returns
-unfolding answerMeant
+unfolding failureMeant beforeLog
 returns c =
-    let no = sym (ap answerMeant (c .before .first .given .1)) ∙ c .before .before .before .first-checks .ensures in
-    (refused-first _ _ _ no, none-entered _ _ _ no _)
+    let no = sym (ap failureMeant (c .before .layout .given .1)) ∙ c .before .before .before .check-layout .ensures in
+    (then-stops _ no ∙ sym (in-groups _), none-entered _ _ (then-stops _ no))
 
 returns-2 : tie.Need-returns-2
-unfolding answerMeant
+unfolding failureMeant beforeLog fromLog fromBook
 returns-2 c =
-    let ok = sym (ap answerMeant (c .before .before .before .before .enum-told .given .1)) ∙ c .before .before .before .before .before .before .first-checks .ensures in
-    (c .record-checks .ensures .0 ∙ first-passed _ ok, all-entered _ ok (c .record-checks .ensures .1))
+    let ok = sym (ap failureMeant (c .before .before .enum-told .given .1)) ∙ c .before .before .before .before .check-layout .ensures in
+    (c .admit-parts .ensures .0 ∙ then-goes-on ok ∙ sym (in-groups _), as-entered _ (then-goes-on ok) (c .admit-parts .ensures .1))
 
 pub admit-into-spec : {M : Type 1} → statement M
 admit-into-spec =
     tie.close
     (tie.spec
-    first-checks-requires
-    enum-known-first
+    check-layout-requires
+    enum-known-layout
     enum-told
-    part-requires
-    count-of-requires
-    record-checks-requires
+    admit-parts-requires
     returns
     returns-2)

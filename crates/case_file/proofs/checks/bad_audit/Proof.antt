@@ -4,11 +4,11 @@ use mathlib.Core.Path.{refl, ap, _∙_}
 use mathlib.Core.Bool.{not}
 use native.Mathlib.Omega.{arith}
 use borrow.Author.Tests.{lt-ltb, le-ltb}
-use Rattle.words.proofs.Tests.{both-second}
+use Rattle.definition.proofs.Tests.{both-second}
 use Rattle.formula_book.proofs.Laws.{agent-is}
-use Rattle.case_file.specs.Layout.{agentOf}
-use Rattle.case_file.specs.Records.{isGroundAction, badAudit}
-use Rattle.case_file.proofs.Booking.{named}
+use Rattle.definition.specs.11-Layout.{agentOf}
+use Rattle.definition.specs.15-Records.{isGroundAction, badAudit}
+use Rattle.case_file.proofs.BookOfFile.{named}
 use Rattle.case_file.proofs.checks.bad_audit.Statement.{statement}
 use Rattle.case_file.proofs.checks.bad_audit.Tie as tie
 

@@ -3,11 +3,11 @@ use borrow.Author.Needs.{needs}
 use mathlib.Core.Path.{refl, sym, ap, _∙_}
 use mathlib.Core.Bool.{not, _&&_}
 use borrow.Author.Tests.{eq-eqb, ne-eqb}
-use Rattle.words.specs.Words.{absent}
-use Rattle.words.proofs.Tests.{either-second}
-use Rattle.formula_book.specs.Formulas.{Formula, isPredicate, ground}
-use Rattle.case_file.specs.Records.{badCondition}
-use Rattle.case_file.proofs.Booking.{named}
+use Rattle.definition.specs.01-Words.{absent}
+use Rattle.definition.proofs.Tests.{either-second}
+use Rattle.definition.specs.13-Formulas.{Formula, isPredicate, ground}
+use Rattle.definition.specs.15-Records.{badCondition}
+use Rattle.case_file.proofs.BookOfFile.{named}
 use Rattle.case_file.proofs.checks.bad_condition.Statement.{statement}
 use Rattle.case_file.proofs.checks.bad_condition.Tie as tie
 

@@ -2,8 +2,8 @@
 use native.Mathlib.Omega.{arith}
 use mathlib.Core.Path.{_≡_}
 use borrow.Author.Tests.{eq-eqb, ne-eqb}
-use Rattle.case_file.specs.Layout.{label-part}
-use Rattle.case_file.specs.Answers.{badEntry}
+use Rattle.definition.specs.11-Layout.{label-part}
+use Rattle.case_file.specs.Entries.{badEntry}
 use Rattle.case_file.proofs.checks.bad_entry.Statement.{statement}
 use Rattle.case_file.proofs.checks.bad_entry.Tie as tie
 

@@ -3,9 +3,9 @@ use borrow.Author.Needs.{needs}
 use mathlib.Core.Path.{sym, ap, _∙_}
 use mathlib.Core.Bool.{not, or-false, and-false}
 use borrow.Author.Tests.{ne-eqb}
-use Rattle.formula_book.specs.Formulas.{isPolicy, isAction}
-use Rattle.case_file.specs.Records.{isDuty, badLabel}
-use Rattle.case_file.proofs.Booking.{closed-named}
+use Rattle.definition.specs.13-Formulas.{isPolicy, isAction}
+use Rattle.definition.specs.15-Records.{isDuty, badLabel}
+use Rattle.case_file.proofs.BookOfFile.{closed-named}
 use Rattle.case_file.proofs.checks.bad_label.Statement.{statement}
 use Rattle.case_file.proofs.checks.bad_label.Tie as tie
 

@@ -2,9 +2,9 @@
 use borrow.Author.Needs.{needs}
 use mathlib.Core.Path.{refl, sym, ap, _∙_}
 use mathlib.Core.Bool.{not}
-use Rattle.words.proofs.Tests.{fails, holds, both-second}
-use Rattle.case_file.specs.Records.{isDuty, isGroundAction, badObligation}
-use Rattle.case_file.proofs.Booking.{named}
+use Rattle.definition.proofs.Tests.{fails, holds, both-second}
+use Rattle.definition.specs.15-Records.{isDuty, isGroundAction, badObligation}
+use Rattle.case_file.proofs.BookOfFile.{named}
 use Rattle.case_file.proofs.checks.bad_obligation.Statement.{statement}
 use Rattle.case_file.proofs.checks.bad_obligation.Tie as tie
 

@@ -3,9 +3,9 @@ use borrow.Author.Needs.{needs}
 use Prim.Native.Nat.{_-_}
 use mathlib.Core.Path.{sym, _∙_}
 use native.Mathlib.Omega.{arith}
-use Rattle.case_file.specs.Layout.{count}
-use Rattle.case_file.specs.Records.{formulas as formulasOf}
-use Rattle.case_file.specs.Answers.{badEntry}
+use Rattle.definition.specs.11-Layout.{count}
+use Rattle.definition.specs.15-Records.{formulas as formulasOf}
+use Rattle.case_file.specs.Entries.{badEntry}
 use Rattle.words.proofs.Searches.{Passed, passed-start, passed-more, passed-found, passed-all}
 use Rattle.case_file.proofs.checks.first_bad.Statement.{statement}
 use Rattle.case_file.proofs.checks.first_bad.Tie as tie

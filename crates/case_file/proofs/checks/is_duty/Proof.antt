@@ -1,6 +1,6 @@
 -- `is_duty` meets its contract. Assumes nothing.
 use borrow.Author.Tests.{eq-eqb, ne-eqb}
-use Rattle.case_file.specs.Records.{isDuty}
+use Rattle.definition.specs.15-Records.{isDuty}
 use Rattle.case_file.proofs.checks.is_duty.Statement.{statement}
 use Rattle.case_file.proofs.checks.is_duty.Tie as tie
 

@@ -3,7 +3,7 @@ use borrow.Author.Needs.{needs}
 use mathlib.Core.Path.{ap}
 use mathlib.Core.Bool.{not}
 use borrow.Author.Tests.{eq-eqb, ne-eqb}
-use Rattle.case_file.specs.Records.{badAction}
+use Rattle.definition.specs.15-Records.{badAction}
 use Rattle.case_file.proofs.log.bad_action.Statement.{statement}
 use Rattle.case_file.proofs.log.bad_action.Tie as tie
 

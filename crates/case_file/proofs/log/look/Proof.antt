@@ -7,11 +7,11 @@ use mathlib.Core.Logic.{⊎-elim}
 use lib.Dec.{eqb}
 use native.Mathlib.Omega.{arith}
 use borrow.Author.Tests.{eq-eqb, ne-eqb}
-use Rattle.words.proofs.Tests.{fails, holds}
-use Rattle.formula_book.specs.Meanings.{sortMeant}
+use Rattle.definition.proofs.Tests.{fails, holds}
+use Rattle.formula_rows.specs.Meanings.{sortMeant}
 use Rattle.case_file.specs.Meanings.{listedMeant}
-use Rattle.case_file.proofs.Looking.{Looked, looked-none, looked-low, looked-other, looked-more, looked-end}
-use Rattle.case_file.proofs.Seeing.{observers-few}
+use Rattle.case_file.proofs.ObserverLists.{Looked, looked-none, looked-low, looked-other, looked-more, looked-end}
+use Rattle.case_file.proofs.SeenTable.{observers-few}
 use Rattle.case_file.proofs.log.look.Statement.{statement}
 use Rattle.case_file.proofs.log.look.Tie as tie
 

@@ -6,12 +6,12 @@ use mathlib.Core.List.{List}
 use native.Mathlib.Omega.{arith}
 use lib.ListN.{length}
 use Rattle.words.proofs.Searches.{Passed, passed-start, passed-more, passed-found, passed-all}
-use Rattle.case_file.specs.Layout.{log-part, count}
-use Rattle.case_file.specs.Records.{formulas, rowFrom, rowCount, spanDue, badLogRow}
+use Rattle.definition.specs.11-Layout.{log-part, count}
+use Rattle.definition.specs.15-Records.{formulas, rowFrom, rowCount, spanDue, badLogRow}
 use Rattle.case_file.specs.Seen.{SeenUpTo}
 use Rattle.case_file.specs.Meanings.{toldMeant}
-use Rattle.case_file.proofs.Spans.{due-first, due-next}
-use Rattle.case_file.proofs.Seeing.{rows-few, answer-bad, answer-good, seen-none, seen-more}
+use Rattle.definition.proofs.Spans.{due-first, due-next}
+use Rattle.case_file.proofs.SeenTable.{rows-few, answer-bad, answer-good, seen-none, seen-more}
 use Rattle.case_file.proofs.log.see_rows.Statement.{statement}
 use Rattle.case_file.proofs.log.see_rows.Tie as tie
 

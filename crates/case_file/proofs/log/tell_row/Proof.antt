@@ -3,10 +3,10 @@ use borrow.Author.Needs.{needs}
 use Prim.Native.Nat.{_+_}
 use mathlib.Core.Path.{_≡_, sym, ap, _∙_}
 use native.Mathlib.Omega.{arith}
-use Rattle.case_file.specs.Records.{formulas, rowAction, badAction, badSpan}
+use Rattle.definition.specs.15-Records.{formulas, rowAction, badAction, badSpan}
 use Rattle.case_file.specs.Seen.{ListAnswer, rowAnswer}
 use Rattle.case_file.specs.Meanings.{listedMeant, toldMeant}
-use Rattle.case_file.proofs.Seeing.{rows-few, booked-trees, rowSpan, span-within, listed, action-bad, span-bad, row-listed}
+use Rattle.case_file.proofs.SeenTable.{rows-few, booked-trees, rowSpan, span-within, listed, action-bad, span-bad, row-listed}
 use Rattle.case_file.proofs.log.tell_row.Statement.{statement}
 use Rattle.case_file.proofs.log.tell_row.Tie as tie
 

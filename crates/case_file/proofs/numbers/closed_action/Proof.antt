@@ -1,6 +1,6 @@
 -- `closed_action` meets its contract. Assumes nothing.
 use borrow.Author.Tests.{lt-leb, le-leb}
-use Rattle.case_file.proofs.Naming.{actions, row-good, row-inside, not-beyond, not-other, by-test}
+use Rattle.case_file.proofs.NumberAnswers.{actions, row-good, row-inside, not-beyond, not-other, by-test}
 use Rattle.case_file.proofs.numbers.closed_action.Statement.{statement}
 use Rattle.case_file.proofs.numbers.closed_action.Tie as tie
 

@@ -1,6 +1,6 @@
 -- `closed_policy` meets its contract. Assumes nothing.
 use borrow.Author.Tests.{le-ltb, lt-ltb}
-use Rattle.case_file.proofs.Naming.{policies, row-good, row-inside, not-beyond, not-other, by-test}
+use Rattle.case_file.proofs.NumberAnswers.{policies, row-good, row-inside, not-beyond, not-other, by-test}
 use Rattle.case_file.proofs.numbers.closed_policy.Statement.{statement}
 use Rattle.case_file.proofs.numbers.closed_policy.Tie as tie
 

@@ -1,7 +1,7 @@
 -- `ground_action` meets its contract. Assumes nothing.
 use borrow.Author.Tests.{lt-leb, le-leb}
-use Rattle.case_file.specs.Records.{isGroundAction}
-use Rattle.case_file.proofs.Naming.{actions, row-good, row-inside, not-beyond, not-other, by-test}
+use Rattle.definition.specs.15-Records.{isGroundAction}
+use Rattle.case_file.proofs.NumberAnswers.{actions, row-good, row-inside, not-beyond, not-other, by-test}
 use Rattle.case_file.proofs.numbers.ground_action.Statement.{statement}
 use Rattle.case_file.proofs.numbers.ground_action.Tie as tie
 

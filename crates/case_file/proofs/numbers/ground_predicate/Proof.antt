@@ -1,6 +1,6 @@
 -- `ground_predicate` meets its contract. Assumes nothing.
 use borrow.Author.Tests.{ne-eqb, eq-eqb}
-use Rattle.case_file.proofs.Naming.{predicates, row-good, row-inside, not-beyond, not-other, by-test}
+use Rattle.case_file.proofs.NumberAnswers.{predicates, row-good, row-inside, not-beyond, not-other, by-test}
 use Rattle.case_file.proofs.numbers.ground_predicate.Statement.{statement}
 use Rattle.case_file.proofs.numbers.ground_predicate.Tie as tie
 

@@ -5,7 +5,7 @@ use native.Mathlib.Omega.{arith}
 use borrow.Author.Needs.{needs}
 use lib.ListN.{length}
 use Rattle.check_case.specs.Input.{Held}
-use Rattle.check_case.proofs.Reading.{as-long, rest-is}
+use Rattle.check_case.proofs.ReadBytes.{as-long, rest-is}
 use Rattle.check_case.proofs.input.read_case.Statement.{statement}
 use Rattle.check_case.proofs.input.read_case.Tie as tie
 

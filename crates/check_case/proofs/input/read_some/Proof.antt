@@ -3,7 +3,7 @@ use mathlib.Core.Path.{sym, subst}
 use mir.Syntax.{w64}
 use mir.Val.{toZ, ofZ}
 use Rattle.check_case.specs.Input.{Held}
-use Rattle.check_case.proofs.Reading.{held}
+use Rattle.check_case.proofs.ReadBytes.{held}
 use borrow.Author.Needs.{needs}
 use Rattle.check_case.proofs.input.read_some.Statement.{statement}
 use Rattle.check_case.proofs.input.read_some.Tie as tie

@@ -6,9 +6,9 @@ use native.Mathlib.Omega.{arith}
 use borrow.Author.Needs.{needs}
 use lib.ListN.{length, take}
 use lib.Seq.{length-take-le, take-all}
-use Rattle.check_case.specs.Text.{Written}
-use Rattle.check_case.specs.Report.{lines}
-use Rattle.check_case.proofs.Writing.{nothing, and-then, kept, room-left}
+use Rattle.check_case.specs.Written.{Written}
+use Rattle.definition.specs.33-Text.{lines}
+use Rattle.check_case.proofs.WrittenText.{nothing, and-then, kept, room-left}
 use Rattle.check_case.proofs.Lines.{lines-more}
 use Rattle.check_case.proofs.Lengths.{lines-most}
 use Rattle.check_case.proofs.report.put_lines.Statement.{statement}

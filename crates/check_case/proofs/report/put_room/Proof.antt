@@ -4,10 +4,10 @@ use mathlib.Core.Path.{sym, ap, subst, _∙_}
 use mathlib.Core.List.{List}
 use native.Mathlib.Omega.{arith}
 use lib.ListN.{length}
-use Rattle.justification.specs.Meanings.{verdictMeant}
-use Rattle.check_case.specs.Text.{Written}
-use Rattle.check_case.specs.Report.{entryLines, duty-word}
-use Rattle.check_case.proofs.Writing.{nothing, and-then, room-left}
+use Rattle.checker.specs.Meanings.{verdictMeant}
+use Rattle.check_case.specs.Written.{Written}
+use Rattle.definition.specs.33-Text.{entryLines, duty-word}
+use Rattle.check_case.proofs.WrittenText.{nothing, and-then, room-left}
 use Rattle.check_case.proofs.Lines.{passed-lines}
 use Rattle.check_case.proofs.Lengths.{duties-fit, rows-fit, lines-most}
 use borrow.Author.Needs.{needs}

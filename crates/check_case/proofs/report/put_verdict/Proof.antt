@@ -2,9 +2,9 @@
 use Prim.Native.Nat.{ℕ}
 use mathlib.Core.Path.{sym, ap, subst}
 use mathlib.Core.List.{List}
-use Rattle.justification.specs.Meanings.{verdictMeant}
-use Rattle.check_case.specs.Text.{Written}
-use Rattle.check_case.specs.Report.{verdictLine}
+use Rattle.checker.specs.Meanings.{verdictMeant}
+use Rattle.check_case.specs.Written.{Written}
+use Rattle.definition.specs.33-Text.{verdictLine}
 use borrow.Author.Needs.{needs}
 use Rattle.check_case.proofs.report.put_verdict.Statement.{statement}
 use Rattle.check_case.proofs.report.put_verdict.Tie as tie

@@ -2,9 +2,9 @@
 use Prim.Native.Nat.{_*_}
 use native.Mathlib.Omega.{arith}
 use lib.ListN.{length, length-append}
-use Rattle.justification.specs.Meanings.{verdictMeant}
-use Rattle.check_case.specs.Report.{reportText, case-word}
-use Rattle.check_case.proofs.Writing.{and-then, room-left}
+use Rattle.checker.specs.Meanings.{verdictMeant}
+use Rattle.definition.specs.33-Text.{reportText, case-word}
+use Rattle.check_case.proofs.WrittenText.{and-then, room-left}
 use Rattle.check_case.proofs.Lengths.{line-most, verdict-most}
 use borrow.Author.Needs.{needs}
 use Rattle.check_case.proofs.report.report.Statement.{statement}

@@ -4,7 +4,8 @@ use mathlib.Core.Path.{_≡_, sym, subst, _∙_}
 use mathlib.Core.List.{List}
 use native.Mathlib.Omega.{arith}
 use lib.ListN.{length, take}
-use Rattle.check_case.specs.Text.{Written, numeral}
+use Rattle.check_case.specs.Written.{Written}
+use Rattle.definition.specs.33-Text.{numeral}
 use Rattle.check_case.proofs.Numerals.{numeral-is, numeral-most}
 use borrow.Author.Needs.{needs}
 use Rattle.check_case.proofs.text.put_number.Statement.{statement}

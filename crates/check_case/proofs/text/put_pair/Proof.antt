@@ -2,8 +2,8 @@
 use Prim.Native.Nat.{_+_}
 use native.Mathlib.Omega.{arith}
 use lib.ListN.{length, length-append}
-use Rattle.check_case.specs.Text.{pair}
-use Rattle.check_case.proofs.Writing.{and-then, room-left}
+use Rattle.definition.specs.33-Text.{pair}
+use Rattle.check_case.proofs.WrittenText.{and-then, room-left}
 use Rattle.check_case.proofs.Numerals.{numeral-most}
 use borrow.Author.Needs.{needs}
 use Rattle.check_case.proofs.text.put_pair.Statement.{statement}

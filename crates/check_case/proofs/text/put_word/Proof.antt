@@ -5,7 +5,7 @@ use native.Mathlib.Omega.{arith}
 use lib.ListN.{length, take, getD, set, length-set}
 use borrow.Author.Needs.{needs}
 use lib.Seq.{sets, take-length}
-use Rattle.check_case.proofs.Writing.{byte-more}
+use Rattle.check_case.proofs.WrittenText.{byte-more}
 use Rattle.check_case.proofs.text.put_word.Statement.{statement}
 use Rattle.check_case.proofs.text.put_word.Tie as tie
 

@@ -4,9 +4,9 @@ use mathlib.Core.Path.{_≡_, refl, sym, _∙_}
 use mathlib.Core.List.{List}
 use native.Mathlib.Omega.{arith}
 use Rattle.words.proofs.Searches.{Passed, passed-found, passed-all}
-use Rattle.formula_book.specs.Book.{book, bookRows, badFormula}
-use Rattle.formula_book.specs.Admission.{firstBad, Sizing}
-use Rattle.formula_book.proofs.Sizing.{zero-bad, sizing-none, sizing-more}
+use Rattle.definition.specs.14-Book.{book, bookRows, badFormula}
+use Rattle.formula_book.specs.Sizes.{Sizing}
+use Rattle.formula_book.proofs.SizeLaws.{zero-bad, sizing-none, sizing-more}
 use Rattle.formula_book.proofs.admission.first_bad.Statement.{statement}
 use Rattle.formula_book.proofs.admission.first_bad.Tie as tie
 
@@ -37,7 +37,6 @@ size-at-requires c κs =
     (v .sizing, omega (arith, v .rows, c .before .loop-test .taken))
 
 returns : tie.Need-returns Inv-loop μ-loop
-unfolding firstBad
 returns c =
     let at = c .before .before .before .before in
     let v = at .loop .inv in
@@ -76,7 +75,6 @@ loop-again c =
     }
 
 returns-2 : tie.Need-returns-2 Inv-loop μ-loop
-unfolding firstBad
 returns-2 c =
     let at = c .before in
     let v = at .loop .inv in

@@ -2,8 +2,8 @@
 use borrow.Author.Needs.{needs}
 use Prim.Native.Nat.{ℕ, _+_}
 use mathlib.Core.Path.{ap, ap₂}
-use Rattle.formula_book.specs.Admission.{nodeSize}
-use Rattle.formula_book.specs.Meanings.{nodeMeant}
+use Rattle.formula_book.specs.Sizes.{nodeSize}
+use Rattle.formula_rows.specs.Meanings.{nodeMeant}
 use Rattle.formula_book.proofs.admission.node_size.Statement.{statement}
 use Rattle.formula_book.proofs.admission.node_size.Tie as tie
 

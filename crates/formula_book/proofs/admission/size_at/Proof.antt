@@ -2,12 +2,12 @@
 use borrow.Author.Needs.{needs}
 use native.Mathlib.Omega.{arith}
 use mathlib.Core.Path.{_≡_, sym, ap, _∙_}
-use Rattle.words.proofs.Tests.{fails, holds}
-use Rattle.formula_book.specs.Formulas.{nodes}
-use Rattle.formula_book.specs.Book.{book, bookRows, treeIn, fieldsFit}
-use Rattle.formula_book.specs.Nodes.{nodeOf}
-use Rattle.formula_book.specs.Admission.{nodeSize}
-use Rattle.formula_book.proofs.Sizing.{kids-below, node-size, misfit-size, large-size, fit-size}
+use Rattle.definition.proofs.Tests.{fails, holds}
+use Rattle.definition.specs.13-Formulas.{nodes}
+use Rattle.definition.specs.14-Book.{book, bookRows, treeIn, fieldsFit}
+use Rattle.formula_rows.specs.Nodes.{nodeOf}
+use Rattle.formula_book.specs.Sizes.{nodeSize}
+use Rattle.formula_book.proofs.SizeLaws.{kids-below, node-size, misfit-size, large-size, fit-size}
 use Rattle.formula_book.proofs.admission.size_at.Statement.{statement}
 use Rattle.formula_book.proofs.admission.size_at.Tie as tie
 

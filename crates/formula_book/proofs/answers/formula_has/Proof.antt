@@ -1,6 +1,6 @@
 -- `formula_has` meets its contract: a row of a kind below 8 is a policy, any other an action. Assumes nothing.
 use borrow.Author.Needs.{needs}
-use Rattle.formula_book.proofs.Fielding.{policy-here, action-here, good-inside}
+use Rattle.formula_book.proofs.WalkedRows.{policy-here, action-here, good-inside}
 use Rattle.formula_book.proofs.answers.formula_has.Statement.{statement}
 use Rattle.formula_book.proofs.answers.formula_has.Tie as tie
 

@@ -1,9 +1,9 @@
 -- `is_closed` meets its contract. Assumes nothing.
 use mathlib.Core.Path.{ap}
 use mathlib.Core.Bool.{not}
-use Rattle.formula_book.specs.Formulas.{closed}
-use Rattle.formula_book.specs.Meanings.{soughtMeant}
-use Rattle.formula_book.proofs.Walking.{free-present}
+use Rattle.definition.specs.13-Formulas.{closed}
+use Rattle.formula_rows.specs.Meanings.{soughtMeant}
+use Rattle.formula_walks.proofs.WalkLaws.{free-present}
 use Rattle.formula_book.proofs.answers.is_closed.Statement.{statement}
 use Rattle.formula_book.proofs.answers.is_closed.Tie as tie
 

@@ -2,10 +2,10 @@
 use borrow.Author.Needs.{needs}
 use mathlib.Core.Path.{ap}
 use mathlib.Core.Bool.{not}
-use Rattle.words.proofs.Tests.{both-first, both-second}
-use Rattle.formula_book.specs.Formulas.{ground}
-use Rattle.formula_book.specs.Meanings.{soughtMeant}
-use Rattle.formula_book.proofs.Walking.{parameter-present}
+use Rattle.definition.proofs.Tests.{both-first, both-second}
+use Rattle.definition.specs.13-Formulas.{ground}
+use Rattle.formula_rows.specs.Meanings.{soughtMeant}
+use Rattle.formula_walks.proofs.WalkLaws.{parameter-present}
 use Rattle.formula_book.proofs.answers.is_ground.Statement.{statement}
 use Rattle.formula_book.proofs.answers.is_ground.Tie as tie
 

@@ -2,9 +2,9 @@
 use borrow.Author.Needs.{needs}
 use mathlib.Core.Bool.{and-false}
 use borrow.Author.Tests.{eq-eqb, ne-eqb}
-use Rattle.words.proofs.Tests.{fails, holds}
-use Rattle.formula_book.specs.Book.{actionAndPolicy, inPlace}
-use Rattle.formula_book.specs.Meanings.{rowMeant, sortMeant}
+use Rattle.definition.proofs.Tests.{fails, holds}
+use Rattle.definition.specs.14-Book.{actionAndPolicy, inPlace}
+use Rattle.formula_rows.specs.Meanings.{rowMeant, sortMeant}
 use Rattle.formula_book.proofs.fields.action_and_policy.Statement.{statement}
 use Rattle.formula_book.proofs.fields.action_and_policy.Tie as tie
 

@@ -1,8 +1,8 @@
 -- `action_below` meets its contract: of a row that is not bad the kind tells policies and actions apart. Assumes nothing.
 use native.Mathlib.Omega.{arith}
 use borrow.Author.Tests.{le-ltb}
-use Rattle.formula_book.specs.Book.{bookRows, actionBelow}
-use Rattle.formula_book.proofs.Fielding.{action-below}
+use Rattle.definition.specs.14-Book.{bookRows, actionBelow}
+use Rattle.formula_book.proofs.WalkedRows.{action-below}
 use Rattle.formula_book.proofs.fields.action_below.Statement.{statement}
 use Rattle.formula_book.proofs.fields.action_below.Tie as tie
 

@@ -6,9 +6,9 @@ use mathlib.Core.Bool.{true, false, and-false}
 use lib.Dec.{eqb}
 use native.Mathlib.Omega.{arith}
 use borrow.Author.Tests.{eq-eqb, ne-eqb}
-use Rattle.words.proofs.Tests.{fails, holds}
-use Rattle.formula_book.specs.Book.{agentAndData, inPlace}
-use Rattle.formula_book.specs.Meanings.{rowMeant, sortMeant}
+use Rattle.definition.proofs.Tests.{fails, holds}
+use Rattle.definition.specs.14-Book.{agentAndData, inPlace}
+use Rattle.formula_rows.specs.Meanings.{rowMeant, sortMeant}
 use Rattle.formula_book.proofs.fields.agent_and_data.Statement.{statement}
 use Rattle.formula_book.proofs.fields.agent_and_data.Tie as tie
 

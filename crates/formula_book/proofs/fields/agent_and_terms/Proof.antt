@@ -1,9 +1,9 @@
 -- `agent_and_terms` meets its contract: an agent, and then up to two terms. Assumes nothing.
 use borrow.Author.Needs.{needs}
 use borrow.Author.Tests.{not-true, not-false}
-use Rattle.words.proofs.Tests.{both-first, both-second}
-use Rattle.formula_book.specs.Book.{inPlace}
-use Rattle.formula_book.specs.Meanings.{sortMeant}
+use Rattle.definition.proofs.Tests.{both-first, both-second}
+use Rattle.definition.specs.14-Book.{inPlace}
+use Rattle.formula_rows.specs.Meanings.{sortMeant}
 use Rattle.formula_book.proofs.fields.agent_and_terms.Statement.{statement}
 use Rattle.formula_book.proofs.fields.agent_and_terms.Tie as tie
 

@@ -2,9 +2,9 @@
 use borrow.Author.Needs.{needs}
 use mathlib.Core.Bool.{and-false}
 use borrow.Author.Tests.{eq-eqb, ne-eqb}
-use Rattle.words.proofs.Tests.{fails, holds}
-use Rattle.formula_book.specs.Book.{agentPolicyAgent, inPlace}
-use Rattle.formula_book.specs.Meanings.{rowMeant, sortMeant}
+use Rattle.definition.proofs.Tests.{fails, holds}
+use Rattle.definition.specs.14-Book.{agentPolicyAgent, inPlace}
+use Rattle.formula_rows.specs.Meanings.{rowMeant, sortMeant}
 use Rattle.formula_book.proofs.fields.agent_policy_agent.Statement.{statement}
 use Rattle.formula_book.proofs.fields.agent_policy_agent.Tie as tie
 

@@ -3,9 +3,9 @@ use borrow.Author.Needs.{needs}
 use mathlib.Core.Path.{sym}
 use mathlib.Core.Bool.{false}
 use lib.ListN.{List·getD-eq-default}
-use Rattle.words.proofs.Tests.{past}
-use Rattle.formula_book.specs.Book.{book, fitTable, fieldsFit}
-use Rattle.formula_book.specs.Meanings.{rowMeant}
+use Rattle.definition.proofs.Tests.{past}
+use Rattle.definition.specs.14-Book.{book, fitTable, fieldsFit}
+use Rattle.formula_rows.specs.Meanings.{rowMeant}
 use Rattle.formula_book.proofs.fields.fields_fit.Statement.{statement}
 use Rattle.formula_book.proofs.fields.fields_fit.Tie as tie
 

@@ -1,8 +1,8 @@
 -- `other_sort` meets its contract: code 0 binds agents, any other data. Assumes nothing.
 use borrow.Author.Tests.{eq-eqb, ne-eqb}
-use Rattle.formula_book.specs.Book.{sortOfCode}
-use Rattle.formula_book.specs.Terms.{other}
-use Rattle.formula_book.specs.Meanings.{sortMeant}
+use Rattle.definition.specs.14-Book.{sortOfCode}
+use Rattle.definition.specs.12-Terms.{other}
+use Rattle.formula_rows.specs.Meanings.{sortMeant}
 use Rattle.formula_book.proofs.fields.other_sort.Statement.{statement}
 use Rattle.formula_book.proofs.fields.other_sort.Tie as tie
 

@@ -1,8 +1,8 @@
 -- `policy_below` meets its contract: of a row that is not bad the kind tells policies and actions apart. Assumes nothing.
 use native.Mathlib.Omega.{arith}
 use borrow.Author.Tests.{le-ltb}
-use Rattle.formula_book.specs.Book.{bookRows, policyBelow}
-use Rattle.formula_book.proofs.Fielding.{policy-below}
+use Rattle.definition.specs.14-Book.{bookRows, policyBelow}
+use Rattle.formula_book.proofs.WalkedRows.{policy-below}
 use Rattle.formula_book.proofs.fields.policy_below.Statement.{statement}
 use Rattle.formula_book.proofs.fields.policy_below.Tie as tie
 

@@ -3,11 +3,11 @@ use borrow.Author.Needs.{needs}
 use mathlib.Core.Path.{ap}
 use mathlib.Core.Bool.{not, and-false}
 use borrow.Author.Tests.{lt-leb, le-leb, eq-eqb, ne-eqb}
-use Rattle.words.proofs.Tests.{fails, holds}
-use Rattle.formula_book.specs.Book.{sortAndBody, bindsOwnSort}
-use Rattle.formula_book.specs.Meanings.{rowMeant, sortMeant, soughtMeant}
-use Rattle.formula_book.proofs.Fielding.{walk-below}
-use Rattle.formula_book.proofs.Walking.{bound-present}
+use Rattle.definition.proofs.Tests.{fails, holds}
+use Rattle.definition.specs.14-Book.{sortAndBody, bindsOwnSort}
+use Rattle.formula_rows.specs.Meanings.{rowMeant, sortMeant, soughtMeant}
+use Rattle.formula_book.proofs.WalkedRows.{walk-below}
+use Rattle.formula_walks.proofs.WalkLaws.{bound-present}
 use Rattle.formula_book.proofs.fields.sort_and_body.Statement.{statement}
 use Rattle.formula_book.proofs.fields.sort_and_body.Tie as tie
 

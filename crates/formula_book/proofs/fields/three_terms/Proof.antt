@@ -3,7 +3,7 @@ use borrow.Author.Needs.{needs}
 use mathlib.Core.Path.{sym, _∙_}
 use mathlib.Core.Bool.{and-true}
 use borrow.Author.Tests.{eq-eqb, ne-eqb}
-use Rattle.formula_book.specs.Book.{termsFirst, allAbsent}
+use Rattle.definition.specs.14-Book.{termsFirst, allAbsent}
 use Rattle.formula_book.proofs.fields.three_terms.Statement.{statement}
 use Rattle.formula_book.proofs.fields.three_terms.Tie as tie
 

@@ -2,9 +2,9 @@
 use borrow.Author.Needs.{needs}
 use mathlib.Core.Bool.{and-false}
 use borrow.Author.Tests.{eq-eqb, ne-eqb}
-use Rattle.words.proofs.Tests.{fails, holds}
-use Rattle.formula_book.specs.Book.{twoPolicies, inPlace}
-use Rattle.formula_book.specs.Meanings.{rowMeant, sortMeant}
+use Rattle.definition.proofs.Tests.{fails, holds}
+use Rattle.definition.specs.14-Book.{twoPolicies, inPlace}
+use Rattle.formula_rows.specs.Meanings.{rowMeant, sortMeant}
 use Rattle.formula_book.proofs.fields.two_policies.Statement.{statement}
 use Rattle.formula_book.proofs.fields.two_policies.Tie as tie
 

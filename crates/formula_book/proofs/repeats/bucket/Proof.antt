@@ -3,7 +3,7 @@
 use borrow.Author.Needs.{needs}
 use mathlib.Core.Path.{refl}
 use native.Mathlib.Omega.{arith}
-use Rattle.formula_book.specs.Meanings.{rowMeant}
+use Rattle.formula_rows.specs.Meanings.{rowMeant}
 use Rattle.formula_book.specs.RowTrees.{bucketOf}
 use Rattle.formula_book.proofs.repeats.bucket.Statement.{statement}
 use Rattle.formula_book.proofs.repeats.bucket.Tie as tie

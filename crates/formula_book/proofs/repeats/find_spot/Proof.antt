@@ -6,7 +6,7 @@ use native.Mathlib.Omega.{arith}
 use borrow.Author.Needs.{needs}
 use lib.ListN.{getD}
 use Rattle.formula_book.specs.RowTrees.{branch}
-use Rattle.formula_book.proofs.RowTrees.{met, repeats, Ahead, ahead-all, ahead-more, ahead-none}
+use Rattle.formula_book.proofs.RowTreeLaws.{met, repeats, Ahead, ahead-all, ahead-more, ahead-none}
 use Rattle.formula_book.proofs.repeats.find_spot.Statement.{statement}
 use Rattle.formula_book.proofs.repeats.find_spot.Tie as tie
 

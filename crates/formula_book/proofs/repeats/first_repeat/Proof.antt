@@ -5,10 +5,10 @@ use mathlib.Core.Path.{_≡_}
 use native.Mathlib.Omega.{arith}
 use borrow.Author.Needs.{needs}
 use Rattle.words.proofs.Searches.{Passed, passed-start, passed-more, passed-found, passed-all}
-use Rattle.formula_book.specs.Book.{repeatsLower}
+use Rattle.definition.specs.14-Book.{repeatsLower}
 use Rattle.formula_book.specs.RowTrees.{Linked, Spotted}
 use Rattle.formula_book.specs.declared.repeats.Spot.{Spot}
-use Rattle.formula_book.proofs.RowTrees.{told, linked-none, linked-more}
+use Rattle.formula_book.proofs.RowTreeLaws.{told, linked-none, linked-more}
 use Rattle.formula_book.proofs.repeats.first_repeat.Statement.{statement}
 use Rattle.formula_book.proofs.repeats.first_repeat.Tie as tie
 

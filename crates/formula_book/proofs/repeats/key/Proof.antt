@@ -1,7 +1,7 @@
 -- `formula_book::repeats::key` meets its contract: the fields fill 64 bits, so no product or sum wraps. Assumes nothing.
 use borrow.Author.Needs.{needs}
 use mathlib.Core.Path.{refl}
-use Rattle.formula_book.specs.Meanings.{rowMeant}
+use Rattle.formula_rows.specs.Meanings.{rowMeant}
 use Rattle.formula_book.specs.RowTrees.{keyOf}
 use Rattle.formula_book.proofs.repeats.key.Statement.{statement}
 use Rattle.formula_book.proofs.repeats.key.Tie as tie

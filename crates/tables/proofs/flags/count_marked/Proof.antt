@@ -4,10 +4,10 @@ use mathlib.Core.Path.{_≡_, refl, ap, _∙_}
 use mathlib.Core.Logic.{⊎-elim}
 use native.Mathlib.Omega.{arith}
 use lib.ListN.{length}
-use Rattle.words.specs.Ranges.{members}
-use Rattle.words.proofs.Ranges.{members-length}
+use Rattle.definition.specs.02-Ranges.{members}
+use Rattle.definition.proofs.RangeLaws.{members-length}
 use Rattle.tables.specs.Sets.{marks}
-use Rattle.tables.proofs.Listing.{count-hit, members-miss}
+use Rattle.tables.proofs.ListedMembers.{count-hit, members-miss}
 use Rattle.tables.proofs.flags.count_marked.Statement.{statement}
 use Rattle.tables.proofs.flags.count_marked.Tie as tie
 

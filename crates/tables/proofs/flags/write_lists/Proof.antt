@@ -2,9 +2,9 @@
 -- Assumes nothing.
 use denote.Ref.{now}
 use borrow.Author.Needs.{needs}
-use Rattle.words.specs.Ranges.{members}
+use Rattle.definition.specs.02-Ranges.{members}
 use Rattle.tables.specs.Sets.{marks}
-use Rattle.tables.proofs.Listing.{front-two}
+use Rattle.tables.proofs.ListedMembers.{front-two}
 use Rattle.tables.proofs.flags.write_lists.Statement.{statement}
 use Rattle.tables.proofs.flags.write_lists.Tie as tie
 

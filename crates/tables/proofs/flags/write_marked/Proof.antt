@@ -6,10 +6,10 @@ use mathlib.Core.List.{List, _++_}
 use mathlib.Core.Logic.{⊎-elim}
 use native.Mathlib.Omega.{arith}
 use lib.ListN.{length, drop, set}
-use Rattle.words.specs.Ranges.{members}
-use Rattle.words.proofs.Ranges.{members-length}
+use Rattle.definition.specs.02-Ranges.{members}
+use Rattle.definition.proofs.RangeLaws.{members-length}
 use Rattle.tables.specs.Sets.{marks}
-use Rattle.tables.proofs.Listing.{members-hit, count-hit, members-miss, members-more, front-length, front-more}
+use Rattle.tables.proofs.ListedMembers.{members-hit, count-hit, members-miss, members-more, front-length, front-more}
 use Rattle.tables.proofs.flags.write_marked.Statement.{statement}
 use Rattle.tables.proofs.flags.write_marked.Tie as tie
 

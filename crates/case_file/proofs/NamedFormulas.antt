@@ -1,0 +1,86 @@
+-- The formulas that an admitted file's records name are formulas of its book. By checks 5 to 9: a number beyond the book names no formula, and that is no policy, no action and no predicate. Assumes nothing.
+use Prim.Native.Nat.{ℕ, _<_}
+use mathlib.Core.Path.{_≡_, refl, sym, ap, _∙_}
+use mathlib.Core.Bool.{Bool, true, false, cond, _&&_, _||_, false≢true}
+use mathlib.Core.Logic.{⊎-elim}
+use mathlib.Core.List.{List}
+use lib.Dec.{eqb, ltb}
+use borrow.Author.Tests.{not-false}
+use Rattle.definition.specs.01-Words.{absent}
+use Rattle.definition.specs.04-Checks.{accepts}
+use Rattle.definition.proofs.Tests.{and-true, or-false, or-true, not-both}
+use Rattle.definition.specs.12-Terms.{agents, classOf, isObject}
+use Rattle.definition.specs.13-Formulas.{Formula, no-formula, isPolicy, isAction, isPredicate, closed, ground}
+use Rattle.definition.specs.14-Book.{treeIn}
+use Rattle.formula_book.proofs.Laws.{number-inside}
+use Rattle.definition.specs.11-Layout.{formula-part, log-part, condition-part, obligation-part, label-part, part, count, agentOf, actionOf}
+use Rattle.definition.specs.15-Records.{formulas, rowAction, conditionFormula, obligationMark, obligationAction, labelMark, labelFormula, isGroundAction, isDuty, badAction, badLogRow, badCondition, badObligation, badLabel, badAudit}
+use Rattle.definition.specs.16-Views.{RowView, hidden, struck, shows, isSeen, viewOf, rowView}
+use Rattle.definition.specs.18-Admission.{admission}
+use Rattle.definition.proofs.AdmissionLaws.{admitted-parted, admitted-book, admitted-rows, admitted-condition, admitted-obligation, admitted-label, admitted-audit}
+use Rattle.case_file.proofs.AdmissionBranches.{booked}
+
+-- What a view shows is the action of its row, which is there.
+isShown : RowView → Bool
+isShown hidden = false
+isShown struck = false
+isShown (shows f) = true
+
+view-shows : (l : List Formula) (seen : Bool) (a : ℕ) (f : Formula) → viewOf l seen a ≡ shows f → (eqb a absent ≡ false) × (treeIn l a ≡ f)
+unfolding viewOf isShown
+view-shows l false a f e = absurd (false≢true (ap isShown e))
+view-shows l true a f e = go (eqb a absent) e
+  where
+    go : (b : Bool) → cond b struck (shows (treeIn l a)) ≡ shows f → (b ≡ false) × (treeIn l a ≡ f)
+    go true q = absurd (false≢true (ap isShown q))
+    go false q = (refl, cc)
+
+module _ (s : List ℕ) (is : admission s ≡ accepts tt) where
+  inside : (k : ℕ) (test : Formula → Bool) → test no-formula ≡ false → test (treeIn (formulas s) k) ≡ true → k < count s formula-part
+  unfolding formulas
+  inside k test =
+      number-inside (part s formula-part) (count s formula-part) k test (booked s (admitted-parted s is) refl refl (sym (admitted-book s is)) .passes)
+
+  pub obligation-named : (k : ℕ) → k < count s obligation-part → obligationAction s k < count s formula-part
+  unfolding badObligation isGroundAction isAction
+  obligation-named k lt =
+      let f = treeIn (formulas s) (obligationAction s k) in
+      let good = and-true (isDuty (obligationMark s k)) (isGroundAction f) (not-false _ (admitted-obligation s is k lt)) .1 in
+      inside (obligationAction s k) isAction refl (and-true (isAction f) (ground f) good .0)
+
+  pub label-named : (k : ℕ) → k < count s label-part → labelFormula s k < count s formula-part
+  unfolding badLabel isPolicy isAction
+  label-named k lt =
+      let f = treeIn (formulas s) (labelFormula s k) in
+      let m = labelMark s k in
+      let good = and-true (closed f) ((eqb m 0 && isPolicy f) || (isDuty m && isAction f)) (not-false _ (admitted-label s is k lt)) .1 in
+      ⊎-elim (λ h. inside (labelFormula s k) isPolicy refl (and-true (eqb m 0) (isPolicy f) h .1))
+      (λ h. inside (labelFormula s k) isAction refl (and-true (isDuty m) (isAction f) h .1))
+      (or-true (eqb m 0 && isPolicy f) (isDuty m && isAction f) good)
+
+  pub condition-named : (k : ℕ) → k < count s condition-part → eqb (conditionFormula s k) absent ≡ false → conditionFormula s k < count s formula-part
+  unfolding badCondition isPredicate
+  condition-named k lt there =
+      let f = treeIn (formulas s) (conditionFormula s k) in
+      ⊎-elim (λ e. absurd (not-both e there))
+      (λ h. inside (conditionFormula s k) isPredicate refl (and-true (isPredicate f) (ground f) h .0))
+      (or-true (eqb (conditionFormula s k) absent) (isPredicate f && ground f) (not-false _ (admitted-condition s is k lt)))
+
+  pub audit-named : actionOf s < count s formula-part
+  unfolding badAudit isGroundAction isAction
+  audit-named =
+      let f = treeIn (formulas s) (actionOf s) in
+      let good = and-true (isObject agents (classOf (agentOf s))) (isGroundAction f) (not-false _ (admitted-audit s is)) .1 in
+      inside (actionOf s) isAction refl (and-true (isAction f) (ground f) good .0)
+
+  -- The number of an action that a row shows to the agent.
+  pub shown-named : (k a : ℕ) → k < count s log-part → rowView s (formulas s) k ≡ shows (treeIn (formulas s) a) → a < count s formula-part
+  unfolding rowView badLogRow badAction isGroundAction isAction
+  shown-named k a lt e =
+      let row = rowAction s k in
+      let f = treeIn (formulas s) row in
+      let v = view-shows (formulas s) (ltb k (count s log-part) && isSeen s k) row (treeIn (formulas s) a) e in
+      let parts = or-false _ _ (admitted-rows s is k lt) in
+      let good = not-false (eqb row absent || isGroundAction f) (or-false _ _ (parts .0) .0) in
+      inside a isAction refl
+      (⊎-elim (λ w. absurd (not-both w (v .0))) (λ w. ap isAction (sym (v .1)) ∙ and-true (isAction f) (ground f) w .0) (or-true (eqb row absent) (isGroundAction f) good))

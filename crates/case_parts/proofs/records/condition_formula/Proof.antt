@@ -1,0 +1,17 @@
+-- `condition_formula` meets its contract: it reads the field that the definition names. Assumes nothing.
+use native.Mathlib.Omega.{arith}
+use Rattle.definition.specs.11-Layout.{recordBytes}
+use Rattle.definition.specs.15-Records.{conditionFormula}
+use Rattle.case_parts.proofs.records.condition_formula.Statement.{statement}
+use Rattle.case_parts.proofs.records.condition_formula.Tie as tie
+
+field-requires : tie.Need-field-requires
+unfolding recordBytes
+field-requires c κs = let p = c .before .pre in ((p .0, omega arith), (p .1, omega arith))
+
+returns : tie.Need-returns
+unfolding conditionFormula
+returns c = c .field .ensures
+
+pub condition-formula-spec : {M : Type 1} → statement M
+condition-formula-spec = tie.close (tie.spec field-requires returns)

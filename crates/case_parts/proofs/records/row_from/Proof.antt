@@ -1,0 +1,17 @@
+-- `row_from` meets its contract: it reads the field that the definition names. Assumes nothing.
+use native.Mathlib.Omega.{arith}
+use Rattle.definition.specs.11-Layout.{recordBytes}
+use Rattle.definition.specs.15-Records.{rowFrom}
+use Rattle.case_parts.proofs.records.row_from.Statement.{statement}
+use Rattle.case_parts.proofs.records.row_from.Tie as tie
+
+field-requires : tie.Need-field-requires
+unfolding recordBytes
+field-requires c κs = let p = c .before .pre in ((p .0, omega arith), (p .1, omega arith))
+
+returns : tie.Need-returns
+unfolding rowFrom
+returns c = c .field .ensures
+
+pub row-from-spec : {M : Type 1} → statement M
+row-from-spec = tie.close (tie.spec field-requires returns)

@@ -1,0 +1,2 @@
+pub mod StepRecord
+pub mod StandingSteps

@@ -1,0 +1,36 @@
+// The parts of a case file: checks 1 and 2, and the fields of the records.
+mod layout;
+mod records;
+
+pub use layout::CONDITIONS;
+pub use layout::FORMULAS;
+pub use layout::LABELS;
+pub use layout::LOG;
+pub use layout::OBLIGATIONS;
+pub use layout::OBSERVERS;
+pub use layout::PREMISES;
+pub use layout::STEPS;
+pub use layout::check_layout;
+pub use layout::count_of;
+pub use layout::field;
+pub use layout::part;
+pub use records::Step;
+pub use records::action_of;
+pub use records::agent_of;
+pub use records::bad_span;
+pub use records::condition_formula;
+pub use records::label_formula;
+pub use records::label_mark;
+pub use records::obligation_action;
+pub use records::obligation_mark;
+pub use records::observer;
+pub use records::premise_step;
+pub use records::row_action;
+pub use records::row_count;
+pub use records::row_from;
+pub use records::step_argument;
+pub use records::step_at;
+pub use records::step_count;
+pub use records::step_formula;
+pub use records::step_from;
+pub use records::step_rule;

@@ -1,0 +1,3 @@
+-- Laws of the checker.
+pub mod StepRun
+pub mod ReportLaws

@@ -1,0 +1,3 @@
+pub mod Meanings
+pub mod StepRuns
+pub mod Reports

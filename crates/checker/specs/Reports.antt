@@ -1,0 +1,21 @@
+-- What a verdict and a room report.
+use Prim.Native.Nat.{ℕ}
+use mathlib.Core.Path.{_≡_}
+use mathlib.Core.List.{List, [], _∷_}
+use Rattle.definition.specs.04-Checks.{Checked, accepts, _>>_, single, inOrder}
+use Rattle.definition.specs.17-Case.{Case}
+use Rattle.definition.specs.22-Steps.{State}
+use Rattle.definition.specs.31-Outcome.{Finding, justified, needed, shortRoom, dischargedList, citedList, report}
+use Rattle.checker.specs.Meanings.{verdictMeant}
+use Rattle.checker.specs.declared.verdict.Verdict.{Verdict}
+
+-- Check 23, the last one, and the two lists.
+unfoldable pub listing : Case → State → ℕ → Checked Finding
+listing c s room = do
+  inOrder (single 23 (needed c s) (shortRoom c s room) ∷ [])
+  accepts (justified (dischargedList c s) (citedList c s))
+
+-- The verdict and the room report what the checks have found.
+pub record Reported (x : Checked Finding) (room : List ℕ) (r : Verdict) (after : List ℕ) : Type 0 where
+  pub verdict : verdictMeant r ≡ report x room .verdict
+  pub room-is : after ≡ report x room .room

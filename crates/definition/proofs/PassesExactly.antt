@@ -1,0 +1,157 @@
+-- Demand 2: a case passes just if it is admitted, something is owed, and there is an account of it. Steps without fault make the trees, and the trees' steps are without fault.
+-- Assumes nothing.
+use Prim.Native.Nat.{ℕ, _+_, _-_, _≤_, _<_}
+use mathlib.Core.Path.{_≡_, refl, sym, ap, _∙_}
+use mathlib.Core.Logic.{⊎-elim}
+use mathlib.Core.List.{List}
+use native.Mathlib.Omega.{arith}
+use lib.ListN.{length}
+use Rattle.definition.proofs.AdmissionLaws.{admitted-parted}
+use Rattle.definition.proofs.Complete.{Grown, grown, tests-at}
+use Rattle.definition.proofs.ConclusionLaws as conclusions
+use Rattle.definition.proofs.PartLaws.{part-few}
+use Rattle.definition.proofs.Passes.{finalState, Proves, Passed, finding-passed, passed-finding}
+use Rattle.definition.proofs.PremiseLaws.{share-same}
+use Rattle.definition.proofs.RangeLaws.{members-length}
+use Rattle.definition.proofs.RuleLaws.{Small}
+use Rattle.definition.proofs.Sound.{tree, reaches}
+use Rattle.definition.proofs.StateMarks.{used-before, before-used, cited-before, openAt, opens-at, joined-same}
+use Rattle.definition.proofs.States.{stateAt, Fine}
+use Rattle.definition.proofs.StepLaws.{Local, fine-parts, parts-fine, spans-adjoin, adjoin-spans}
+use Rattle.definition.proofs.Tests.{not-both, never-true}
+use Rattle.definition.specs.03-Lists.{Among}
+use Rattle.definition.specs.04-Checks.{Checked, accepts, refuses}
+use Rattle.definition.specs.11-Layout.{mostRecords, condition-part, log-part, obligation-part, label-part}
+use Rattle.definition.specs.13-Formulas.{Formula}
+use Rattle.definition.specs.17-Case.{Case, caseOf}
+use Rattle.definition.specs.18-Admission.{admission}
+use Rattle.definition.specs.22-Steps.{Labels, startState, next, premisesOf, isAnObligation}
+use Rattle.definition.specs.31-Outcome.{passed, Finding, justified, nothing-owed, owes, lastStep, needed, dischargedList, citedList, finding, report, outcome}
+use Rattle.definition.specs.42-Account.{Account}
+use Rattle.definition.specs.44-Demands.{PassesExactly}
+
+-- what a reported pass was
+pub reported :
+    (x : Checked Finding) (room : List ℕ) (d r : ℕ) → report x room .verdict ≡ passed d r →
+    (ds : List ℕ) × (rs : List ℕ) × (x ≡ accepts (justified ds rs)) × (length ds ≡ d) × (length rs ≡ r)
+unfolding report
+reported (accepts (justified ds rs)) room d r e = (ds, rs, refl, cc, cc)
+reported (accepts nothing-owed) room d r e = absurd (let z : _≡_ {A = ℕ} 0 1 = cc in omega arith)
+reported (refuses n p) room d r e = absurd (let z : _≡_ {A = ℕ} 0 1 = cc in omega arith)
+
+last-step : (c : Case) → 0 < c .steps → lastStep c + 1 ≡ c .steps
+unfolding lastStep
+last-step c h = omega arith
+
+-- an account from steps without fault
+proves-account : (c : Case) (f : Formula) (m : ℕ) → Proves c f m → Account c f
+unfolding finalState lastStep
+proves-account c f m p =
+    let last = lastStep c in
+    let is : last + 1 ≡ c .steps = last-step c (p .some-step) in
+    let inside : last < c .steps = omega arith in
+    let t = tree c (p .fine) (c .steps) last inside inside in
+    record {
+      some-step = p .some-step;
+      spans = spans-adjoin c (λ k lt. fine-parts c k (stateAt c k) (p .fine k lt) .span);
+      opens = openAt c last;
+      spent = t .spent;
+      steps = t .steps;
+      proof = rw (p .last-is) at (t .proof);
+      none-open = λ l lt o. not-both o (ap (λ (L : Labels). L l) (sym (opens-at c (c .steps) last inside)) ∙ p .none-open l lt);
+      all-used = λ k lt. t .whole k (reaches c (p .fine) last is (p .used) last k (omega arith) lt);
+    }
+
+-- steps without fault from an account
+module _ (c : Case) (f : Formula) (small : Small c) (a : Account c f) where
+  whole : Grown c (c .steps - 1) f (a .opens) (a .spent) (a .steps)
+  whole = grown c small (a .proof)
+
+  opens-same : (k : ℕ) → k < c .steps → (p : ℕ) → Among p (premisesOf c k) → openAt c p ≡ stateAt c k .opens p
+  opens-same k lt p m = sym (opens-at c k p (whole .region .sure k (a .all-used k lt) .earlier p m))
+
+  local-now : (k : ℕ) → k < c .steps → Local c (stateAt c k .opens) k
+  local-now k lt =
+      let l = whole .region .sure k (a .all-used k lt) .local in
+      record {
+        number = l .number;
+        policy = l .policy;
+        closed = l .closed;
+        tests = tests-at refl refl refl refl (sym (joined-same (openAt c) (stateAt c k .opens) (premisesOf c k) (opens-same k lt))) (l .tests);
+        split = share-same c (openAt c) (stateAt c k .opens) (premisesOf c k) (opens-same k lt) (l .split);
+      }
+
+  account-fine : (k : ℕ) → k < c .steps → Fine c k (stateAt c k)
+  unfolding startState next
+  account-fine k lt =
+      let s = whole .region .sure k (a .all-used k lt) in
+      parts-fine c k (stateAt c k)
+      (record {
+        local = local-now k lt;
+        usable = record {
+          earlier = s .earlier;
+          unused =
+              λ p m.
+              never-true _
+              (λ u.
+              let b = used-before c k p u in
+              let is = whole .region .one-parent (b .0) k p (a .all-used (b .0) (omega arith)) (a .all-used k lt) (b .2) m in
+              omega arith);
+          distinct = s .distinct;
+        };
+        span = adjoin-spans c (a .spans) k lt;
+        once =
+            λ n m d.
+            let b = cited-before c (λ s. s .discharged) isAnObligation (λ x. refl) (λ i s. refl) k (c .step k .argument) d in
+            let is = whole .region .once (b .0) k (c .step k .argument) (a .all-used (b .0) (omega arith)) (a .all-used k lt) (b .2, b .3) (n, refl) m in
+            omega arith;
+      })
+
+  account-proves : (m : ℕ) → c .obligations + c .rows ≤ m → Proves c f m
+  unfolding finalState lastStep needed dischargedList citedList
+  account-proves m enough =
+      let last = lastStep c in
+      let is : last + 1 ≡ c .steps = last-step c (a .some-step) in
+      record {
+        some-step = a .some-step;
+        fine = account-fine;
+        used =
+            λ j lt.
+            ⊎-elim (λ e. absurd (omega arith)) (λ y. before-used c (c .steps) (y .0) j (whole .region .sure (y .0) (y .1) .inside) (y .2))
+            (whole .parent j (a .all-used j (omega arith)));
+        none-open =
+            λ l lt.
+            never-true _
+            (λ o. a .none-open l lt (ap (λ (L : Labels). L l) (whole .opens-is ∙ sym (opens-at c (c .steps) last (omega arith))) ∙ o));
+        last-is = whole .formula-is;
+        enough = omega (arith, members-length (stateAt c (c .steps) .discharged) (c .obligations) 0, members-length (stateAt c (c .steps) .cited) (c .rows) 0);
+      }
+
+case-small : (s : List ℕ) → admission s ≡ accepts tt → Small (caseOf s)
+unfolding caseOf mostRecords
+case-small s e =
+    let f = admitted-parted s e in
+    record {
+      conditions = omega (arith, part-few s f condition-part (omega arith));
+      rows = omega (arith, part-few s f log-part (omega arith));
+      obligations = omega (arith, part-few s f obligation-part (omega arith));
+      labels = omega (arith, part-few s f label-part (omega arith));
+    }
+
+pub passes-exactly : PassesExactly
+unfolding outcome report owes
+passes-exactly s room enough = (
+  λ p.
+      let r = reported (finding s (length room)) room (p .0) (p .1) (p .2) in
+      let w = finding-passed s (length room) (r .0) (r .1) (r .2) .0 in
+      (w .admitted, w .owed-is, conclusions.drawn _ _ _ .1 (w .owed), proves-account (caseOf s) (w .owed-is) (length room) (w .proves)),
+  λ j.
+      let w : Passed s (length room) =
+      record {
+        admitted = j .0;
+        owed-is = j .1;
+        owed = conclusions.owing (j .2);
+        proves = account-proves (caseOf s) (j .1) (case-small s (j .0)) (j .3) (length room) enough;
+      } in
+      (length (dischargedList (caseOf s) (finalState (caseOf s))), length (citedList (caseOf s) (finalState (caseOf s))), rw (passed-finding s (length room) w)),
+)

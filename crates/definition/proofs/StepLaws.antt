@@ -1,0 +1,125 @@
+-- What the tests of step k say of that step alone, given the labels that its premises leave open; and its span. Assumes nothing.
+use Prim.Native.Nat.{ℕ, _<_}
+use mathlib.Core.Path.{_≡_, _∙_}
+use mathlib.Core.Bool.{Bool, true, false, not, _&&_}
+use mathlib.Core.List.{List, map}
+use native.Mathlib.Omega.{arith}
+use lib.ListN.{length, length-map}
+use lib.Dec.{eqb, ltb}
+use borrow.Author.Tests.{ltb-false, le-ltb, eqb-true, eq-eqb, not-false}
+use Rattle.definition.specs.01-Words.{absent}
+use Rattle.definition.specs.02-Ranges.{listed}
+use Rattle.definition.proofs.Tests.{and-true, and-intro, or-false, not-both, never-true}
+use Rattle.definition.specs.13-Formulas.{Formula, each-use, isPolicy, closed}
+use Rattle.definition.specs.41-Occurrences.{Policy, Closed}
+use Rattle.definition.proofs.OccurrenceLaws.{policy-is, closed-is}
+use Rattle.definition.specs.15-Records.{badSpan}
+use Rattle.definition.specs.17-Case.{Case}
+use Rattle.definition.proofs.Spans as laws
+use Rattle.definition.specs.22-Steps.{State, Labels, ruleOf, premisesOf, mustBeAbsent, misshapen, isAnObligation, joined, isEachUse, isAdding, share, usedTwice, misfit, notFresh}
+use Rattle.definition.specs.42-Account.{SpansAdjoin}
+use Rattle.definition.proofs.States.{Fine}
+use Rattle.definition.proofs.PremiseLaws.{Usable, premises-usable, usable-premises, listed-length}
+use Rattle.definition.proofs.RuleLaws.{Tests}
+
+-- the formulas of the premises of step k
+unfoldable pub premiseFormulas : Case → ℕ → List Formula
+premiseFormulas c k = map (λ p. c .step p .formula) (premisesOf c k)
+
+-- the span of step k, as check 12 tests it
+unfoldable pub spanFault : Case → ℕ → Bool
+spanFault c k = badSpan (λ j. c .step j .from) (λ j. c .step j .len) (c .steps) (c .premises) k
+
+-- the shape of step k, the tests of its rule, and that its premises share no each-use label, where O are the labels that each step leaves open
+pub record Local (c : Case) (O : ℕ → Labels) (k : ℕ) : Type 0 where
+  pub number : c .step k .rule < 16
+  pub policy : Policy (c .step k .formula)
+  pub closed : Closed (c .step k .formula)
+  pub tests : Tests c (c .step k .rule) (c .step k .formula) (c .step k .argument) (premiseFormulas c k) (joined O (premisesOf c k))
+  pub split : share c O (premisesOf c k) ≡ false
+
+-- an each-use obligation that step k cites was not cited before
+abbrev pub SpentOnce : Case → State → ℕ → Type 0
+SpentOnce c s k =
+    isAnObligation (ruleOf c k .names) ≡ true → c .obligation (c .step k .argument) .mark ≡ each-use → s .discharged (c .step k .argument) ≡ true → ⊥
+
+premises-length : (c : Case) (k : ℕ) → length (premiseFormulas c k) ≡ c .step k .len
+unfolding premiseFormulas premisesOf
+premises-length c k =
+    length-map (listed (c .premise) (c .step k .len) (c .step k .from)) (λ p. c .step p .formula)
+    ∙ listed-length (c .premise) (c .step k .len) (c .step k .from)
+
+pub record Parts (c : Case) (k : ℕ) (s : State) : Type 0 where
+  pub local : Local c (s .opens) k
+  pub usable : Usable (s .used) k (premisesOf c k)
+  pub span : spanFault c k ≡ false
+  pub once : SpentOnce c s k
+
+pub fine-parts : (c : Case) (k : ℕ) (s : State) → Fine c k s → Parts c k s
+unfolding misshapen usedTwice misfit notFresh ruleOf premiseFormulas spanFault
+fine-parts c k s f =
+    let f6 = or-false _ (mustBeAbsent (ruleOf c k .names) && not (eqb (c .step k .argument) absent)) (f .shape) in
+    let f5 = or-false _ (ltb (ruleOf c k .most) (c .step k .len)) (f6 .0) in
+    let f4 = or-false _ (ltb (c .step k .len) (ruleOf c k .least)) (f5 .0) in
+    let f3 = or-false _ (spanFault c k) (f4 .0) in
+    let f2 = or-false (ltb 15 (c .step k .rule)) (not (isPolicy (c .step k .formula) && closed (c .step k .formula))) (f3 .0) in
+    let pc = and-true (isPolicy (c .step k .formula)) (closed (c .step k .formula)) (not-false _ (f2 .1)) in
+    let u3 = or-false _ (isAdding (ruleOf c k .effect) && isEachUse c (c .step k .argument) && joined (s .opens) (premisesOf c k) (c .step k .argument)) (f .split) in
+    let u2 = or-false (isAnObligation (ruleOf c k .names) && eqb (c .obligation (c .step k .argument) .mark) each-use && s .discharged (c .step k .argument)) (share c (s .opens) (premisesOf c k)) (u3 .0) in
+    record {
+      local = record {
+        number = omega (arith, ltb-false 15 (c .step k .rule) (f2 .0));
+        policy = policy-is _ .0 (pc .0);
+        closed = closed-is _ .0 (pc .1);
+        tests = record {
+          least = rw (premises-length c k) (f4 .1);
+          most = rw (premises-length c k) (f5 .1);
+          argument = f6 .1;
+          present = f .present;
+          there = f .there;
+          seen = f .seen;
+          unstruck = f .unstruck;
+          added = u3 .1;
+          fits = not-false _ (f .fits);
+          fresh = f .fresh;
+        };
+        split = u2 .1;
+      };
+      usable = premises-usable (s .used) k (premisesOf c k) (f .premises);
+      span = f3 .1;
+      once = λ n m d. not-both (and-intro (and-intro n (eq-eqb _ each-use m)) d) (u2 .0);
+    }
+
+pub parts-fine : (c : Case) (k : ℕ) (s : State) → Parts c k s → Fine c k s
+unfolding misshapen usedTwice misfit notFresh ruleOf premiseFormulas spanFault
+parts-fine c k s p =
+    let l = p .local in
+    let t = l .tests in
+    let least : ltb (c .step k .len) (ruleOf c k .least) ≡ false = rw (premises-length c k) at (t .least) in
+    let most : ltb (ruleOf c k .most) (c .step k .len) ≡ false = rw (premises-length c k) at (t .most) in
+    let spent : isAnObligation (ruleOf c k .names) && eqb (c .obligation (c .step k .argument) .mark) each-use && s .discharged (c .step k .argument) ≡ false =
+    never-true _ (λ e. let a = and-true _ (s .discharged (c .step k .argument)) e in let b = and-true _ (eqb (c .obligation (c .step k .argument) .mark) each-use) (a .0) in p .once (b .0) (eqb-true _ each-use (b .1)) (a .1)) in
+    record {
+      shape = rw (le-ltb 15 (c .step k .rule) (omega (arith, l .number)), policy-is _ .1 (l .policy), closed-is _ .1 (l .closed), p .span, least, most) (t .argument);
+      premises = usable-premises (s .used) k (premisesOf c k) (p .usable);
+      present = t .present;
+      there = t .there;
+      seen = t .seen;
+      unstruck = t .unstruck;
+      split = rw (spent, l .split) (t .added);
+      fits = rw (t .fits);
+      fresh = t .fresh;
+    }
+
+-- the spans of all steps adjoin and cover just if none is at fault
+pub spans-adjoin : (c : Case) → ((k : ℕ) → k < c .steps → spanFault c k ≡ false) → SpansAdjoin c
+unfolding spanFault
+spans-adjoin c h =
+    let a = laws.spans-adjoin (λ j. c .step j .from) (λ j. c .step j .len) (c .steps) (c .premises) h in
+    record { first = a .first; next = a .next; last = a .last }
+
+pub adjoin-spans : (c : Case) → SpansAdjoin c → (k : ℕ) → k < c .steps → spanFault c k ≡ false
+unfolding spanFault
+adjoin-spans c a =
+    laws.adjoin-spans (λ j. c .step j .from) (λ j. c .step j .len) (c .steps) (c .premises)
+    (record { first = a .first; next = a .next; last = a .last })

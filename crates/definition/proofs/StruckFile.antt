@@ -1,0 +1,223 @@
+-- The file with every unseen row struck out is alike to the agent: of a file that checks 1 and 2 let pass, only the action bytes of unseen rows change,
+-- which lie in the log part and in no field that says who sees a row. And check 5 finds no fault in it that it did not find before: a struck row's action is absent. Assumes nothing.
+use Prim.Native.Nat.{ℕ, zero, suc, _+_, _*_, _-_, _/_, _%_, _≤_, _<_}
+use mathlib.Core.Bool.{Bool, true, false, cond, not, _&&_, _||_, and-false, false≢true}
+use mathlib.Core.Path.{_≡_, refl, sym, ap, fun-ext, _∙_}
+use mathlib.Core.Logic.{_⊎_, inl, inr}
+use mathlib.Core.List.{List, [], _∷_}
+use native.Mathlib.Omega.{arith}
+use lib.ListN.{length, getD, List·getD-eq-default}
+use lib.Dec.{ltb}
+use borrow.Author.Tests.{ltb-true, ltb-false, lt-ltb, le-ltb, le-leb, lt-leb}
+use Rattle.definition.proofs.AlikeFiles.{same-field}
+use Rattle.definition.proofs.PartLaws.{part-inside}
+use Rattle.definition.proofs.PartOrder.{log-start, behind-log}
+use Rattle.definition.proofs.RangeLaws.{any-none}
+use Rattle.definition.proofs.Windows.{window-at, same-entry, same-window}
+use Rattle.definition.specs.01-Words.{word, absent}
+use Rattle.definition.specs.02-Ranges.{any}
+use Rattle.definition.specs.04-Checks.{AllHold}
+use Rattle.definition.specs.11-Layout.{headerBytes, formula-part, log-part, observer-part, condition-part, obligation-part, label-part, step-part, premise-part, recordBytes, agentOf, actionOf, offset, size, end, count, part, held, field, dueOffset, badLength, orphans, isMisplaced, faultyPart}
+use Rattle.definition.specs.13-Formulas.{Formula}
+use Rattle.definition.specs.15-Records.{rowAction, rowFrom, rowCount, observer, badSpan, badObserver, badAction, badLogRow, formulas, logChecks}
+use Rattle.definition.specs.16-Views.{isSeen, inUnseenAction, struckFrom, strike}
+use Rattle.definition.specs.18-Admission.{Parted}
+use Rattle.definition.specs.43-Alike.{RowAlike, Alike}
+
+struck-length : (s bs : List ℕ) (i : ℕ) → length (struckFrom s bs i) ≡ length bs
+unfolding struckFrom
+struck-length s [] i = refl
+struck-length s (b ∷ bs) i = ap suc (struck-length s bs (i + 1))
+
+struck-at : (s bs : List ℕ) (i j : ℕ) → j < length bs → getD (struckFrom s bs i) j 0 ≡ cond (inUnseenAction s (i + j)) 255 (getD bs j 0)
+unfolding struckFrom
+struck-at s [] i j h = absurd (omega arith)
+struck-at s (b ∷ bs) i zero h = let here : i + 0 ≡ i = omega arith in rw here
+struck-at s (b ∷ bs) i (suc j) h = let later : i + suc j ≡ i + 1 + j = omega arith in rw later (struck-at s bs (i + 1) j (omega arith))
+
+-- Which bytes are actions of unseen rows.
+module _ (s : List ℕ) where
+  in-log : (at : ℕ) → inUnseenAction s (offset s log-part + at) ≡ ltb at (size s log-part) && ltb (at % 6) 2 && not (isSeen s (at / 6))
+  unfolding inUnseenAction recordBytes
+  in-log at =
+      let back : offset s log-part + at - offset s log-part ≡ at = omega arith in
+      rw (back, le-leb (offset s log-part) (offset s log-part + at) (omega arith))
+
+  outside : (i : ℕ) → (i < offset s log-part) ⊎ (end s log-part ≤ i) → inUnseenAction s i ≡ false
+  unfolding inUnseenAction end
+  outside i (inl before) = rw (lt-leb (offset s log-part) i before)
+  outside i (inr behind) = rw (le-leb (offset s log-part) i (omega arith), le-ltb (i - offset s log-part) (size s log-part) (omega arith))
+
+  no-action : (at : ℕ) → 2 ≤ at % 6 → inUnseenAction s (offset s log-part + at) ≡ false
+  no-action at h = rw (in-log at, le-ltb (at % 6) 2 h, and-false)
+
+  of-seen : (k at : ℕ) → at / 6 ≡ k → isSeen s k ≡ true → inUnseenAction s (offset s log-part + at) ≡ false
+  of-seen k at is e = rw (in-log at, is, e, and-false)
+
+  of-unseen : (k at : ℕ) → at / 6 ≡ k → isSeen s k ≡ false → at % 6 < 2 → at < size s log-part → inUnseenAction s (offset s log-part + at) ≡ true
+  of-unseen k at is e l h = rw (in-log at, is, e, lt-ltb at (size s log-part) h, lt-ltb (at % 6) 2 l)
+
+module _ (s : List ℕ) (f : Parted s) where
+  strikes : strike s ≡ struckFrom s s 0
+  unfolding strike
+  strikes = rw (f .long, any-none (faultyPart s) 8 0 (λ k _ h. f .sound k h))
+
+  same-length : length (strike s) ≡ length s
+  same-length = rw strikes (struck-length s s 0)
+
+  byte : (i : ℕ) → i < length s → getD (strike s) i 0 ≡ cond (inUnseenAction s i) 255 (getD s i 0)
+  byte i h = let all : 0 + i ≡ i = omega arith in rw strikes (rw all at (struck-at s s 0 i h))
+
+  kept : (i : ℕ) → inUnseenAction s i ≡ false → getD (strike s) i 0 ≡ getD s i 0
+  kept i e = go (ltb i (length s)) refl
+    where
+      go : (b : Bool) → ltb i (length s) ≡ b → getD (strike s) i 0 ≡ getD s i 0
+      go true h = rw e at (byte i (ltb-true i (length s) h))
+      go false h =
+          let past = ltb-false i (length s) h in
+          List·getD-eq-default (strike s) 0 (rw same-length past) ∙ sym (List·getD-eq-default s 0 past)
+
+  header-word : (i : ℕ) → i + 1 < headerBytes → word (strike s) i ≡ word s i
+  unfolding word
+  header-word i h =
+      let from = log-start s f in
+      rw (kept i (outside s i (inl (omega arith))), kept (i + 1) (outside s (i + 1) (inl (omega arith))))
+
+  same-offset : (p : ℕ) → p < 8 → offset (strike s) p ≡ offset s p
+  unfolding offset
+  same-offset p h = header-word (4 * p + 4) (omega arith)
+
+  same-size : (p : ℕ) → p < 8 → size (strike s) p ≡ size s p
+  unfolding size
+  same-size p h = header-word (4 * p + 6) (omega arith)
+
+  pub parted-struck : Parted (strike s)
+  unfolding badLength faultyPart isMisplaced dueOffset end count orphans
+  parted-struck =
+      record {
+        long = rw same-length (f .long);
+        sound =
+            λ p h.
+            rw
+            (same-offset p h, same-size p h, same-offset (p - 1) (omega arith), same-size (p - 1) (omega arith), same-size 1 (omega arith), same-size 2 (omega arith), same-size 6 (omega arith), same-size 7 (omega arith), same-length)
+            (f .sound p h);
+      }
+
+  -- Byte i of a part is kept where the file's byte there is.
+  part-byte : (p : ℕ) → p < 8 → (i : ℕ) → inUnseenAction s (offset s p + i) ≡ false → getD (part (strike s) p) i 0 ≡ getD (part s p) i 0
+  unfolding part
+  part-byte p h i e = rw (same-offset p h, same-size p h) (same-entry (strike s) s (size s p) (offset s p) i (λ _. kept (offset s p + i) e))
+
+  -- The other parts lie before the log or behind it.
+  apart : (p : ℕ) → p < 8 → (p ≡ log-part → ⊥) → (i : ℕ) → i < size s p → inUnseenAction s (offset s p + i) ≡ false
+  unfolding end
+  apart zero h o i l = let from = log-start s f in outside s (offset s 0 + i) (inl (omega arith))
+  apart (suc p) h o i l = let from = behind-log s f (suc p) h (omega arith) in outside s (offset s (suc p) + i) (inr (omega arith))
+
+  same-part : (p : ℕ) → p < 8 → (p ≡ log-part → ⊥) → part (strike s) p ≡ part s p
+  unfolding part
+  same-part p h o =
+      rw (same-offset p h, same-size p h)
+      (same-window (strike s) s (size s p) (offset s p) same-length (λ i l. kept (offset s p + i) (apart p h o i l)))
+
+  -- Behind a row's action, its record is kept.
+  same-span : (k i : ℕ) → 2 ≤ i → i < 5 → field (strike s) log-part k i ≡ field s log-part k i
+  unfolding field word recordBytes
+  same-span k i l h =
+      rw
+      (part-byte log-part (omega arith) (6 * k + i) (no-action s (6 * k + i) (omega arith)), part-byte log-part (omega arith) (6 * k + i + 1) (no-action s (6 * k + i + 1) (omega arith)))
+
+  same-from : rowFrom (strike s) ≡ rowFrom s
+  unfolding rowFrom
+  same-from = fun-ext λ k. same-span k 2 (omega arith) (omega arith)
+
+  same-len : rowCount (strike s) ≡ rowCount s
+  unfolding rowCount
+  same-len = fun-ext λ k. same-span k 4 (omega arith) (omega arith)
+
+  same-observer : observer (strike s) ≡ observer s
+  unfolding observer
+  same-observer = fun-ext λ j. same-field (strike s) s observer-part (same-part observer-part (omega arith) (omega arith)) j 0
+
+  same-seen : (k : ℕ) → isSeen (strike s) k ≡ isSeen s k
+  unfolding isSeen held agentOf
+  same-seen k =
+      rw
+      (same-part observer-part (omega arith) (omega arith), same-observer, header-word 0 (omega arith), same-from, same-len)
+
+  seen-action : (k : ℕ) → isSeen s k ≡ true → rowAction (strike s) k ≡ rowAction s k
+  unfolding rowAction field word recordBytes
+  seen-action k e =
+      rw
+      (part-byte log-part (omega arith) (6 * k + 0) (of-seen s k (6 * k + 0) (omega arith) e), part-byte log-part (omega arith) (6 * k + 0 + 1) (of-seen s k (6 * k + 0 + 1) (omega arith) e))
+
+  struck-byte : (k at : ℕ) → at / 6 ≡ k → isSeen s k ≡ false → at % 6 < 2 → at < size s log-part → getD (part (strike s) log-part) at 0 ≡ 255
+  unfolding part end
+  struck-byte k at is e l h =
+      let fits = part-inside s f log-part (omega arith) in
+      let o = offset s log-part in
+      rw (same-offset log-part (omega arith), same-size log-part (omega arith))
+      (window-at (strike s) (size s log-part) o at h ∙ rw (of-unseen s k at is e l h) at (byte (o + at) (omega arith)))
+
+  unseen-action : (k : ℕ) → k < count s log-part → isSeen s k ≡ false → rowAction (strike s) k ≡ absent
+  unfolding rowAction field word recordBytes count
+  unseen-action k h e =
+      rw
+      (struck-byte k (6 * k + 0) (omega arith) e (omega arith) (omega arith), struck-byte k (6 * k + 0 + 1) (omega arith) e (omega arith) (omega arith))
+
+  alike-row : (k : ℕ) → RowAlike s (strike s) k
+  alike-row k = go (isSeen s k) refl
+    where
+      go : (b : Bool) → isSeen s k ≡ b → RowAlike s (strike s) k
+      go true e = inl (e, rw same-seen e, sym (seen-action k e))
+      go false e = inr (e, rw same-seen e)
+
+  same-count : (p : ℕ) → p < 8 → count (strike s) p ≡ count s p
+  unfolding count
+  same-count p h = rw (same-size p h)
+
+  pub alike-struck : Alike s (strike s)
+  unfolding agentOf actionOf
+  alike-struck =
+      record {
+        agent = sym (header-word 0 (omega arith));
+        action = sym (header-word 2 (omega arith));
+        formulas = sym (same-part formula-part (omega arith) (omega arith));
+        conditions = sym (same-part condition-part (omega arith) (omega arith));
+        obligations = sym (same-part obligation-part (omega arith) (omega arith));
+        labels = sym (same-part label-part (omega arith) (omega arith));
+        steps = sym (same-part step-part (omega arith) (omega arith));
+        premises = sym (same-part premise-part (omega arith) (omega arith));
+        rows = sym (same-count log-part (omega arith));
+        row = λ k _. alike-row k;
+      }
+
+  same-observers : badObserver (strike s) ≡ badObserver s
+  unfolding badObserver
+  same-observers = fun-ext λ from. fun-ext λ j. rw same-observer
+
+  row-stays-good : (l : List Formula) (k : ℕ) → k < count s log-part → badLogRow s l k ≡ false → badLogRow (strike s) l k ≡ false
+  unfolding badLogRow badAction
+  row-stays-good l k h fine =
+      rw (same-from, same-len, same-observers, same-count log-part (omega arith), same-count observer-part (omega arith)) (go (isSeen s k) refl)
+    where
+      spans : Bool
+      spans = badSpan (rowFrom s) (rowCount s) (count s log-part) (count s observer-part) k
+
+      entries : Bool
+      entries = any (badObserver s (rowFrom s k)) (rowCount s k) (rowFrom s k)
+
+      others : (a b c : Bool) → a || b || c ≡ false → b || c ≡ false
+      others true b c e = absurd (false≢true (sym e))
+      others false b c e = e
+
+      go : (b : Bool) → isSeen s k ≡ b → badAction l (rowAction (strike s) k) || spans || entries ≡ false
+      go true e = rw (seen-action k e) fine
+      go false e = rw (unseen-action k h e) (others (badAction l (rowAction s k)) spans entries fine)
+
+  -- A log that check 5 lets pass stays so.
+  pub log-stays-good : formulas s ≡ formulas (strike s) → AllHold (logChecks s) → AllHold (logChecks (strike s))
+  unfolding logChecks
+  log-stays-good trees h =
+      let rows = same-count log-part (omega arith) in
+      rw (← trees) (λ k below. row-stays-good (formulas s) k (omega arith) (h .0 k (omega arith)), tt)

@@ -1,0 +1,231 @@
+-- One step of a justification: checks 12 to 19 in their order, and what the step then changes.
+use Prim.Native.Nat.{ℕ, zero, suc, _+_}
+use mathlib.Core.Bool.{Bool, true, false, not, _&&_, _||_}
+use mathlib.Core.Option.{Option, none, some}
+use mathlib.Core.List.{List, [], _∷_, _++_, map}
+use lib.Dec.{eqb, ltb}
+use Rattle.definition.specs.01-Words.{absent}
+use Rattle.definition.specs.02-Ranges.{any, listed, update}
+use Rattle.definition.specs.04-Checks.{Check, single, Checked, accepts, _>>=_, _>>_, inOrder}
+use Rattle.definition.specs.13-Formulas.{Formula, each-use, isPolicy, closed, this-term, has}
+use Rattle.definition.specs.15-Records.{badSpan}
+use Rattle.definition.specs.16-Views.{RowView, hidden, struck, shows}
+use Rattle.definition.specs.17-Case.{Case}
+use Rattle.definition.specs.21-Rules.{Rule, Names, nothing, a-label, a-condition, a-row, an-obligation, a-term, Effect, keeps, adds, closes, ruleAt}
+
+-- A set of labels: is this label in it?
+abbrev pub Labels : Type 0
+Labels = ℕ → Bool
+
+-- What the steps so far have done: the labels each leaves open, the steps used as premises, the log rows cited, the obligations discharged.
+pub record State : Type 0 where
+  pub opens : ℕ → Labels
+  pub used : ℕ → Bool
+  pub cited : ℕ → Bool
+  pub discharged : ℕ → Bool
+
+unfoldable pub startState : State
+startState = record { opens = λ k l. false; used = λ k. false; cited = λ k. false; discharged = λ k. false }
+
+unfoldable pub ruleOf : Case → ℕ → Rule
+ruleOf c k = ruleAt (c .step k .rule)
+
+-- The steps that step k has as premises, "in the order given".
+unfoldable pub premisesOf : Case → ℕ → List ℕ
+premisesOf c k = listed (c .premise) (c .step k .len) (c .step k .from)
+
+unfoldable pub mustBeAbsent : Names → Bool
+mustBeAbsent nothing = true
+mustBeAbsent a-label = false
+mustBeAbsent a-condition = false
+mustBeAbsent a-row = false
+mustBeAbsent an-obligation = false
+mustBeAbsent a-term = false
+
+-- Check 12: "rule, formula, span, premise count, or argument not absent where it must be". "A step's formula is a closed policy."
+unfoldable pub misshapen : Case → ℕ → Bool
+misshapen c k =
+    ltb 15 (c .step k .rule)
+    || not (isPolicy (c .step k .formula) && closed (c .step k .formula))
+    || badSpan (λ j. c .step j .from) (λ j. c .step j .len) (c .steps) (c .premises) k
+    || ltb (c .step k .len) (ruleOf c k .least)
+    || ltb (ruleOf c k .most) (c .step k .len)
+    || (mustBeAbsent (ruleOf c k .names) && not (eqb (c .step k .argument) absent))
+
+-- Check 13: "premise not earlier, or used before", also by the same step. "Premises are earlier steps, each used once in all."
+unfoldable pub badPremises : (ℕ → Bool) → ℕ → List ℕ → Bool
+badPremises used k [] = false
+badPremises used k (p ∷ ps) = not (ltb p k) || used p || badPremises (update used p true) k ps
+
+unfoldable pub isNone : Option Formula → Bool
+isNone none = true
+isNone (some f) = false
+
+-- Check 14: "needed argument absent, or cited entry absent". Of the entries, this tests a condition's; a log row's comes below, after check 16.
+unfoldable pub citesAbsent : Case → Names → ℕ → Bool
+citesAbsent c nothing a = false
+citesAbsent c a-label a = eqb a absent
+citesAbsent c a-condition a = eqb a absent || (ltb a (c .conditions) && isNone (c .condition a))
+citesAbsent c a-row a = eqb a absent
+citesAbsent c an-obligation a = eqb a absent
+citesAbsent c a-term a = eqb a absent
+
+-- Check 15: "no such label, condition, log row or obligation".
+unfoldable pub citesNothing : Case → Names → ℕ → Bool
+citesNothing c nothing a = false
+citesNothing c a-label a = not (ltb a (c .labels))
+citesNothing c a-condition a = not (ltb a (c .conditions))
+citesNothing c a-row a = not (ltb a (c .rows))
+citesNothing c an-obligation a = not (ltb a (c .obligations))
+citesNothing c a-term a = false
+
+unfoldable pub isARow : Names → Bool
+isARow nothing = false
+isARow a-label = false
+isARow a-condition = false
+isARow a-row = true
+isARow an-obligation = false
+isARow a-term = false
+
+unfoldable pub isAnObligation : Names → Bool
+isAnObligation nothing = false
+isAnObligation a-label = false
+isAnObligation a-condition = false
+isAnObligation a-row = false
+isAnObligation an-obligation = true
+isAnObligation a-term = false
+
+unfoldable pub isHidden : RowView → Bool
+isHidden hidden = true
+isHidden struck = false
+isHidden (shows f) = false
+
+unfoldable pub isStruck : RowView → Bool
+isStruck hidden = false
+isStruck struck = true
+isStruck (shows f) = false
+
+-- Check 16: "agent not among the row's observers".
+unfoldable pub citesHidden : Case → Names → ℕ → Bool
+citesHidden c n a = isARow n && isHidden (c .row a)
+
+-- Check 14 of a log row, "cited entry absent". "One exception: at a seen step, 16 comes before 14 for a struck row."
+unfoldable pub citesStruck : Case → Names → ℕ → Bool
+citesStruck c n a = isARow n && isStruck (c .row a)
+
+-- "That of its premises together": the labels that one of the steps leaves open.
+unfoldable pub joined : (ℕ → Labels) → List ℕ → Labels
+joined opens [] l = false
+joined opens (p ∷ ps) l = opens p l || joined opens ps l
+
+unfoldable pub isEachUse : Case → ℕ → Bool
+isEachUse c l = eqb (c .label l .mark) each-use
+
+-- Do two of the steps leave the same each-use label open?
+unfoldable pub share : Case → (ℕ → Labels) → List ℕ → Bool
+share c opens [] = false
+share c opens (p ∷ ps) = any (λ l. isEachUse c l && opens p l && joined opens ps l) (c .labels) 0 || share c opens ps
+
+unfoldable pub isAdding : Effect → Bool
+isAdding keeps = false
+isAdding adds = true
+isAdding closes = false
+
+-- Check 17: "each-use obligation cited before; each-use label open in two premises, or already in rule 13's".
+unfoldable pub usedTwice : Case → State → Rule → ℕ → List ℕ → Bool
+usedTwice c s r a ps =
+    (isAnObligation (r .names) && eqb (c .obligation a .mark) each-use && s .discharged a)
+    || share c (s .opens) ps
+    || (isAdding (r .effect) && isEachUse c a && joined (s .opens) ps a)
+
+-- Check 18: "rule does not fit otherwise".
+unfoldable pub misfit : Case → ℕ → Bool
+misfit c k =
+    let f = c .step k .formula in
+    let a = c .step k .argument in
+    let ps = map (λ p. c .step p .formula) (premisesOf c k) in
+    not (ruleOf c k .fits c f a ps)
+
+-- Check 19: "parameter in rule 14's formula or its premise's open labels".
+unfoldable pub notFresh : Case → State → ℕ → Bool
+notFresh c s k =
+    let a = c .step k .argument in
+    let above = joined (s .opens) (premisesOf c k) in
+    eqb (c .step k .rule) 14
+    && (has (this-term a) 0 (c .step k .formula)
+    || any (λ l. above l && has (this-term a) 0 (c .label l .formula)) (c .labels) 0)
+
+-- The labels that a step leaves open, from those that its premises leave open together. "Closing a label not open is allowed."
+unfoldable pub leaves : Effect → ℕ → Labels → Labels
+leaves keeps a above = above
+leaves adds a above = update above a true
+leaves closes a above = update above a false
+
+unfoldable pub markAll : (ℕ → Bool) → List ℕ → ℕ → Bool
+markAll used [] = used
+markAll used (p ∷ ps) = markAll (update used p true) ps
+
+unfoldable pub markIf : Bool → (ℕ → Bool) → ℕ → ℕ → Bool
+markIf true marks a = update marks a true
+markIf false marks a = marks
+
+-- The state after step k.
+unfoldable pub next : Case → ℕ → State → State
+next c k s =
+    let r = ruleOf c k in
+    let a = c .step k .argument in
+    let ps = premisesOf c k in
+    record {
+      opens = update (s .opens) k (leaves (r .effect) a (joined (s .opens) ps));
+      used = markAll (s .used) ps;
+      cited = markIf (isARow (r .names)) (s .cited) a;
+      discharged = markIf (isAnObligation (r .names)) (s .discharged) a;
+    }
+
+-- Checks 14 to 16 of what a step cites, with the one exception. k is the step.
+unfoldable pub citationChecks : Case → Names → (a k : ℕ) → List Check
+citationChecks c n a k =
+    single 14 k (citesAbsent c n a)
+    ∷ single 15 k (citesNothing c n a)
+    ∷ single 16 k (citesHidden c n a)
+    ∷ single 14 k (citesStruck c n a)
+    ∷ []
+
+-- Check 18 of step k.
+unfoldable pub fitChecks : Case → ℕ → List Check
+fitChecks c k = single 18 k (misfit c k) ∷ []
+
+-- Checks 12 to 16 of step k: it is well made, and all that it rests on is there.
+unfoldable pub shapeChecks : Case → ℕ → State → List Check
+shapeChecks c k s =
+    (single 12 k (misshapen c k) ∷ single 13 k (badPremises (s .used) k (premisesOf c k)) ∷ [])
+    ++ citationChecks c (ruleOf c k .names) (c .step k .argument) k
+
+-- Checks 17 to 19 of step k: it uses that as its rule allows.
+unfoldable pub useChecks : Case → ℕ → State → List Check
+useChecks c k s =
+    (single 17 k (usedTwice c s (ruleOf c k) (c .step k .argument) (premisesOf c k)) ∷ [])
+    ++ fitChecks c k
+    ++ (single 19 k (notFresh c s k) ∷ [])
+
+-- Step k "through 12 to 19 by number".
+unfoldable pub stepChecks : Case → ℕ → State → List Check
+stepChecks c k s = shapeChecks c k s ++ useChecks c k s
+
+-- The step, and the state after it.
+unfoldable pub stepAt : Case → ℕ → State → Checked State
+stepAt c k s = do
+  inOrder (stepChecks c k s)
+  accepts (next c k s)
+
+-- The steps from k on, `left` of them, in order.
+unfoldable pub runFrom : Case → ℕ → ℕ → State → Checked State
+runFrom c zero k s = accepts s
+runFrom c (suc left) k s = do
+  t ← stepAt c k s
+  runFrom c left (k + 1) t
+
+-- What an evaluation unfolds of this file.
+unfoldable pub evaluatedSteps : Unit {0}
+unfolding startState ruleOf premisesOf mustBeAbsent misshapen badPremises isNone citesAbsent citesNothing isARow isAnObligation isHidden isStruck citesHidden citesStruck joined isEachUse share isAdding usedTwice misfit notFresh leaves markAll markIf next citationChecks fitChecks shapeChecks useChecks stepChecks stepAt runFrom
+evaluatedSteps = tt

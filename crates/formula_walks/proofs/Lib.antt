@@ -1,0 +1,7 @@
+-- Laws of walks over formulas.
+pub mod Shifts
+pub mod ListPlaces
+pub mod DataOrder
+pub mod WalkLaws
+pub mod DataWalkLaws
+pub mod InstanceLaws

@@ -1,0 +1,4 @@
+pub mod WalkRows
+pub mod CommonNode
+pub mod DataLists
+pub mod DataWalk

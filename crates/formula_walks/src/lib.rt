@@ -1,0 +1,12 @@
+// Walks over a formula, row by row: what stands in it, its data, and whether it is another with a term put in.
+mod data_set;
+mod data_walk;
+mod instances;
+mod occurs;
+
+pub use data_walk::action_data;
+pub use data_walk::policy_data;
+pub use instances::action_instance;
+pub use instances::policy_instance;
+pub use occurs::action_has;
+pub use occurs::policy_has;

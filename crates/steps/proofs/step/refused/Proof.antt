@@ -1,0 +1,16 @@
+-- `refused` meets its contract. Assumes nothing.
+use borrow.Author.Needs.{needs}
+use mathlib.Core.Path.{refl}
+use Rattle.words.specs.Meanings.{failureMeant}
+use Rattle.steps.proofs.step.refused.Statement.{statement}
+use Rattle.steps.proofs.step.refused.Tie as tie
+
+empty-requires : tie.Need-empty-requires
+empty-requires c κs = search needs
+
+returns : tie.Need-returns
+unfolding failureMeant
+returns c = (refl, c .empty .ensures)
+
+pub refused-spec : {M : Type 1} → statement M
+refused-spec = tie.close (tie.spec empty-requires returns)

@@ -1,0 +1,4 @@
+pub mod WorkingTables
+pub mod CitedEntries
+pub mod OpenLabels
+pub mod StepAnswers

@@ -1,0 +1,7 @@
+// One step of a justification: checks 12 to 19 in order, what it uses, and what it leaves behind.
+mod fresh;
+mod step;
+mod uses;
+
+pub use step::take_step;
+pub use uses::each_use_labels;
