@@ -4,12 +4,12 @@ use Rattle.definition.specs.13-Formulas.{Formula}
 use Rattle.definition.specs.14-Book.{treeIn}
 use Rattle.definition.specs.16-Views.{RowView, hidden, struck, shows}
 use Rattle.case_file.specs.Seen.{ListAnswer, faulty, unseen, seen, RowAnswer, bad, good}
-use Rattle.case_file.specs.declared.log.Listed.{Listed}
-use Rattle.case_file.specs.declared.log.Listed.the-variants as listed
-use Rattle.case_file.specs.declared.log.Told.{Told}
-use Rattle.case_file.specs.declared.log.Told.the-variants as told
-use Rattle.case_file.specs.declared.log.View.{View}
-use Rattle.case_file.specs.declared.log.View.the-variants as view
+use Rattle.case_file.specs.declared.log_checks.Listed.{Listed}
+use Rattle.case_file.specs.declared.log_checks.Listed.the-variants as listed
+use Rattle.case_file.specs.declared.log_checks.Told.{Told}
+use Rattle.case_file.specs.declared.log_checks.Told.the-variants as told
+use Rattle.case_file.specs.declared.log_checks.View.{View}
+use Rattle.case_file.specs.declared.log_checks.View.the-variants as view
 
 unfoldable pub listedMeant : Listed → ListAnswer
 listedMeant listed.Faulty = faulty

@@ -1,6 +1,6 @@
 // Admission of a case file: the groups of checks 1 to 9, in order, over any bytes.
-use crate::checks::check_records;
-use crate::log::check_log;
+use crate::log_checks::check_log;
+use crate::record_checks::check_records;
 use case_parts::FORMULAS;
 use case_parts::check_layout;
 use case_parts::count_of;

@@ -1,2 +1,2 @@
 pub mod StepRecord
-pub mod StandingSteps
+pub mod ShapedSteps

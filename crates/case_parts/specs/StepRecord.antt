@@ -6,7 +6,7 @@ use Rattle.definition.specs.15-Records.{stepRule, stepFormula, stepArgument, st
 use Rattle.case_parts.specs.declared.records.Step.{Step}
 
 -- The fields of step k, as they stand in the file.
-pub record IsStep (s : List ℕ) (k : ℕ) (t : Step) : Type 0 where
+pub record StepFields (s : List ℕ) (k : ℕ) (t : Step) : Type 0 where
   pub rule : t .rule ≡ stepRule s k
   pub formula : t .formula ≡ stepFormula s k
   pub argument : t .argument ≡ stepArgument s k

@@ -12,7 +12,7 @@ ghost use Prim.Native.Nat.{_+_, _<_, _≤_};
 ghost use Rattle.definition.specs.11-Layout.{log-part, observer-part, condition-part, obligation-part, label-part, step-part, premise-part, count, agentOf, actionOf};
 ghost use Rattle.definition.specs.15-Records.{rowAction, rowFrom, rowCount, observer as observerOf, conditionFormula, obligationMark, obligationAction, labelMark, labelFormula, stepRule, stepFormula, stepArgument, stepFrom, stepCount, premiseStep, spanFault};
 ghost use Rattle.definition.specs.18-Admission.{Parted};
-ghost use Rattle.case_parts.specs.StepRecord.{IsStep};
+ghost use Rattle.case_parts.specs.StepRecord.{StepFields};
 
 // The audited agent.
 pub fn agent_of(file: &[u8]) -> u16
@@ -153,7 +153,7 @@ pub struct Step {
 
 pub fn step_at(file: &[u8], k: usize) -> Step
     requires { ⌜ Parted (now file) × (k < count (now file) step-part) ⌝ }
-    ensures { λ r. ⌜ IsStep (now (file .entry)) k r ⌝ }
+    ensures { λ r. ⌜ StepFields (now (file .entry)) k r ⌝ }
 {
     Step {
         rule: step_rule(file, k),

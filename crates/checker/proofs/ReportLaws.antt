@@ -22,9 +22,9 @@ use Rattle.definition.specs.45-Promises.{Answered}
 use Rattle.case_file.proofs.Laws.{table-view, all-rows-entered}
 use Rattle.case_file.specs.AdmissionRuns.{beforeLog}
 use Rattle.case_file.specs.Seen.{SeenUpTo, rowsAfter}
-use Rattle.rules.proofs.StandingStepLaws.{formula-inside}
+use Rattle.rules.proofs.ShapedStepLaws.{formula-inside}
 use Rattle.case_file.specs.LentCase.{Lent, CaseLent}
-use Rattle.case_parts.specs.StandingSteps.{EarlierNumbered}
+use Rattle.case_parts.specs.ShapedSteps.{EarlierNumbered}
 use Rattle.checker.specs.Meanings.{verdictMeant}
 use Rattle.checker.specs.Reports.{listing, Reported}
 use Rattle.checker.specs.declared.verdict.Verdict.{Verdict}

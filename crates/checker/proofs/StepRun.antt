@@ -10,9 +10,9 @@ use Rattle.definition.specs.04-Checks.{accepts, refuses, _>>_, _>>=_, inOrder}
 use Rattle.definition.specs.11-Layout.{step-part, count}
 use Rattle.definition.specs.17-Case.{Case, caseOf}
 use Rattle.definition.specs.22-Steps.{State, next, stepChecks, stepAt, runFrom}
-use Rattle.rules.proofs.StandingStepLaws.{formula-inside}
+use Rattle.rules.proofs.ShapedStepLaws.{formula-inside}
 use Rattle.case_file.specs.LentCase.{Lent}
-use Rattle.case_parts.specs.StandingSteps.{EarlierNumbered}
+use Rattle.case_parts.specs.ShapedSteps.{EarlierNumbered}
 use Rattle.steps.proofs.StepBranches.{no-fault}
 use Rattle.steps.specs.StepAnswers.{byRun, afterStep, Stepped}
 use Rattle.steps.specs.WorkingTables.{stateOf, Tables}

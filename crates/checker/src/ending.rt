@@ -27,7 +27,7 @@ ghost use Rattle.definition.specs.31-Outcome.{wrongEnd, concluding};
 ghost use Rattle.tables.specs.Sets.{labelsOf};
 ghost use Rattle.steps.specs.WorkingTables.{stateOf, Tables};
 ghost use Rattle.case_file.specs.LentCase.{CaseLent};
-ghost use Rattle.case_parts.specs.StandingSteps.{EarlierNumbered};
+ghost use Rattle.case_parts.specs.ShapedSteps.{EarlierNumbered};
 ghost use Rattle.checker.specs.Reports.{listing, Reported};
 
 // The lowest of the first `n` labels that is open, or `n`.

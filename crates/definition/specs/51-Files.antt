@@ -59,7 +59,7 @@ unfoldable pub laidOut : (agent action : ℕ) → List (List ℕ) → List ℕ
 laidOut agent action parts = words (agent ∷ action ∷ pairs 36 parts) ++ joinAll parts
 
 -- A file of formula rows, and the numbers of the other parts.
-pub record Written : Type 0 where
+pub record FileParts : Type 0 where
   pub agent : ℕ
   pub action : ℕ
   pub formulas : List (List ℕ)
@@ -71,7 +71,7 @@ pub record Written : Type 0 where
   pub steps : List (List ℕ)
   pub premises : List ℕ
 
-unfoldable pub fileOf : Written → List ℕ
+unfoldable pub fileOf : FileParts → List ℕ
 fileOf w =
     laidOut (w .agent) (w .action)
     (joinAll (w .formulas)

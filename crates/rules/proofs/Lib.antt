@@ -5,5 +5,5 @@ pub mod CitedFormulas
 pub mod FormulaParts
 pub mod SeenRowRule
 pub mod RuleNumbers
-pub mod StandingStepLaws
+pub mod ShapedStepLaws
 pub mod OwnedData

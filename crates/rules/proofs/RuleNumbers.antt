@@ -13,7 +13,7 @@ use Rattle.definition.specs.11-Layout.{log-part, condition-part, obligation-par
 use Rattle.definition.specs.17-Case.{caseOf}
 use Rattle.definition.specs.21-Rules.{Names, a-label, a-condition, a-row, an-obligation, a-term, rule, rules, ruleAt}
 use Rattle.definition.specs.22-Steps.{citesAbsent, citesNothing}
-use Rattle.case_parts.specs.StandingSteps.{CitedEntry}
+use Rattle.case_parts.specs.ShapedSteps.{CitedEntry}
 use Rattle.rules.specs.PremiseFormulas.{OneOfThree, Argued, Premised}
 
 -- The last of three, where it is neither of the first two.

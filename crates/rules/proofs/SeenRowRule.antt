@@ -13,10 +13,10 @@ use Rattle.definition.specs.15-Records.{formulas}
 use Rattle.case_file.specs.Seen.{codeView}
 use Rattle.case_file.specs.Meanings.{viewMeant}
 use Rattle.definition.specs.17-Case.{caseOf}
-use Rattle.case_file.specs.declared.log.View.{View}
-use Rattle.case_file.specs.declared.log.View.the-variants.{Hidden, Struck, Shows}
+use Rattle.case_file.specs.declared.log_checks.View.{View}
+use Rattle.case_file.specs.declared.log_checks.View.the-variants.{Hidden, Struck, Shows}
 use denote.Enum.Declared.{tagOf}
-use Rattle.case_file.proofs.log.View.{the-type}
+use Rattle.case_file.proofs.log_checks.View.{the-type}
 use Rattle.case_file.proofs.Laws.{shown-named}
 use Rattle.definition.specs.21-Rules.{isThat, conclusion, rowConclusion, seenRow}
 use Rattle.case_file.specs.LentCase.{CaseLent, Numbered}

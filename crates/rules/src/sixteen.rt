@@ -31,8 +31,8 @@ ghost use Rattle.definition.specs.21-Rules as definition;
 ghost use Rattle.definition.specs.22-Steps.{misfit, fitChecks};
 ghost use Rattle.case_file.specs.LentCase.{Lent, CaseLent, Numbered};
 ghost use Rattle.words.specs.Meanings.{failureMeant};
-ghost use Rattle.case_parts.specs.StepRecord.{IsStep};
-ghost use Rattle.case_parts.specs.StandingSteps.{CitedEntry, Standing};
+ghost use Rattle.case_parts.specs.StepRecord.{StepFields};
+ghost use Rattle.case_parts.specs.ShapedSteps.{CitedEntry, ShapedStep};
 ghost use Rattle.rules.specs.PremiseFormulas.{PremiseThere, PremisesThere, premiseTrees, OneOfThree, Argued, Premised};
 
 // Check 18 of the step at `place`, by whether its rule fits.
@@ -353,7 +353,7 @@ fn by_argument(file: &[u8], book: &[u8], rule: u16, f: u16, argument: u16, p: u1
 // The rules that have one premise or two, but for 5.
 fn from_premises(file: &[u8], book: &[u8], k: usize, step: Step) -> bool
     requires { ⌜ Lent (now file) (now book) ⌝ }
-    requires { ⌜ Standing (now file) k × IsStep (now file) k step ⌝ }
+    requires { ⌜ ShapedStep (now file) k × StepFields (now file) k step ⌝ }
     requires { ⌜ Premised (step .rule) ⌝ }
     ensures { λ r. ⌜ r ≡ not (misfit (caseOf (now (file .entry))) k) ⌝ }
 {
@@ -372,7 +372,7 @@ fn from_premises(file: &[u8], book: &[u8], k: usize, step: Step) -> bool
 // Check 18 of step `k`.
 pub fn check_fit(file: &[u8], book: &[u8], views: &[u16; 1024], k: usize, step: Step) -> Failure
     requires { ⌜ CaseLent (now file) (now book) (now views) ⌝ }
-    requires { ⌜ Standing (now file) k × IsStep (now file) k step ⌝ }
+    requires { ⌜ ShapedStep (now file) k × StepFields (now file) k step ⌝ }
     ensures { λ r. ⌜ failureMeant r ≡ inOrder (fitChecks (caseOf (now (file .entry))) k) ⌝ }
 {
     let place = k as u16;

@@ -20,7 +20,7 @@ use Rattle.definition.specs.21-Rules.{Names, nothing, a-label, a-condition, a-r
 use Rattle.definition.specs.22-Steps.{citesAbsent, citesNothing, citesHidden, citesStruck, isARow, isNone, isHidden, isStruck, citationChecks}
 use Rattle.case_file.specs.Seen.{codeView}
 use Rattle.case_file.specs.LentCase.{CaseLent}
-use Rattle.case_parts.specs.StandingSteps.{CitedEntry}
+use Rattle.case_parts.specs.ShapedSteps.{CitedEntry}
 use Rattle.step_shape.specs.EntryChecks.{entryChecks}
 
 -- An entry that is at no fault is there.

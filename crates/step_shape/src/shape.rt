@@ -22,7 +22,7 @@ ghost use Rattle.definition.specs.17-Case.{caseOf};
 ghost use Rattle.definition.specs.18-Admission.{Parted};
 ghost use Rattle.definition.specs.22-Steps.{misshapen as isMisshapen, mustBeAbsent, ruleOf};
 ghost use Rattle.case_file.specs.Booked.{Booked};
-ghost use Rattle.case_parts.specs.StepRecord.{IsStep};
+ghost use Rattle.case_parts.specs.StepRecord.{StepFields};
 ghost use Rattle.step_shape.specs.Meanings.{shapeMeant, namesMeant};
 ghost use Rattle.step_shape.specs.RuleLines.{shapeOf};
 ghost use Rattle.step_shape.specs.RuleFit.{unlikeRule};
@@ -89,7 +89,7 @@ fn unlike_rule(shape: Shape, len: u16, argument: u16) -> bool
 pub fn misshapen(file: &[u8], book: &[u8], k: usize, step: Step, shape: Shape) -> bool
     requires { ⌜ Parted (now file) × (k < count (now file) step-part) ⌝ }
     requires { ⌜ Booked (now file) (now book) (count (now file) formula-part) ⌝ }
-    requires { ⌜ IsStep (now file) k step × (shapeMeant shape ≡ shapeOf (ruleOf (caseOf (now file)) k)) ⌝ }
+    requires { ⌜ StepFields (now file) k step × (shapeMeant shape ≡ shapeOf (ruleOf (caseOf (now file)) k)) ⌝ }
     ensures { λ r. ⌜ r ≡ isMisshapen (caseOf (now (file .entry))) k ⌝ }
 {
     if 15 < step.rule {

@@ -14,7 +14,7 @@ use Rattle.definition.specs.22-Steps.{isAnObligation, isAdding}
 use Rattle.case_file.proofs.LentCaseLaws.{labels-few, obligations-few, rows-few}
 use Rattle.rules.proofs.RuleNumbers.{label-there, row-there, obligation-there}
 use Rattle.step_shape.specs.RuleLines.{shapeOf, ruleShape}
-use Rattle.case_parts.specs.StandingSteps.{CitedEntry}
+use Rattle.case_parts.specs.ShapedSteps.{CitedEntry}
 use Rattle.steps.specs.CitedEntries.{LabelThere, CitedThere, EntryThere}
 
 -- A test that holds of every line of the rules' table holds of each rule.

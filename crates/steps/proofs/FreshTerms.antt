@@ -16,7 +16,7 @@ use Rattle.definition.specs.15-Records.{formulas, labelFormula, stepRule, stepF
 use Rattle.definition.specs.17-Case.{caseOf}
 use Rattle.tables.specs.Sets.{labelsOf}
 use Rattle.case_file.specs.LentCase.{Lent}
-use Rattle.case_parts.specs.StepRecord.{IsStep}
+use Rattle.case_parts.specs.StepRecord.{StepFields}
 use Rattle.steps.specs.OpenLabels.{inOpenLabels}
 use Rattle.case_parts.specs.declared.records.Step.{Step}
 use Rattle.case_file.proofs.LentCaseLaws.{parted, labels-few}
@@ -51,7 +51,7 @@ stale s k bits =
     eqb (stepRule s k) 14
     && (has (this-term (stepArgument s k)) 0 (treeIn (formulas s) (stepFormula s k)) || inOpenLabels (caseOf s) (stepArgument s k) (labelsOf bits))
 
-module _ {s b : List ℕ} {k : ℕ} (lent : Lent s b) {t : Step} (is : IsStep s k t) (bits : ℕ) where
+module _ {s b : List ℕ} {k : ℕ} (lent : Lent s b) {t : Step} (is : StepFields s k t) (bits : ℕ) where
   pub other-rule : (t .rule ≡ 14 → ⊥) → false ≡ stale s k bits
   other-rule other = rw (ne-eqb (stepRule s k) 14 (λ e. other (is .rule ∙ e)))
 

@@ -12,9 +12,9 @@ use Rattle.definition.specs.15-Records.{stepFrom, stepCount, stepArgument, prem
 use Rattle.definition.specs.17-Case.{Case, caseOf}
 use Rattle.definition.specs.21-Rules.{Names, Effect}
 use Rattle.definition.specs.22-Steps.{State, ruleOf, premisesOf, misshapen, badPremises, joined, share, leaves, next, usedTwice, notFresh, citationChecks, shapeChecks, useChecks, stepChecks}
-use Rattle.case_parts.specs.StandingSteps.{EarlierNumbered}
+use Rattle.case_parts.specs.ShapedSteps.{EarlierNumbered}
 use Rattle.step_shape.specs.RuleLines.{shapeOf, ruleShape}
-use Rattle.case_parts.specs.StandingSteps.{CitedEntry, Standing, PremisesBelow}
+use Rattle.case_parts.specs.ShapedSteps.{CitedEntry, ShapedStep, PremisesBelow}
 use Rattle.tables.proofs.Assignments.{opens-set}
 use Rattle.tables.specs.Sets.{labelsOf, marks, opensOf}
 use Rattle.words.specs.Meanings.{failureMeant}
@@ -22,7 +22,7 @@ use Rattle.words.specs.declared.runs.Failure.{Failure}
 use Rattle.words.specs.declared.runs.Failure.the-variants.{None, At}
 use Rattle.step_shape.proofs.CitationLaws.{cited-entry}
 use Rattle.step_shape.proofs.EarlierPremises.{premises-earlier, all-taken}
-use Rattle.steps.specs.CitedEntries.{Marked}
+use Rattle.steps.specs.CitedEntries.{CitedMarked}
 use Rattle.steps.specs.OpenLabels.{IsAbove, AboveIn, twiceUsed, inOpenLabels, staleTerm}
 use Rattle.steps.specs.StepAnswers.{byRun, aboveTold, RefusedBy, JudgedAs, Stepped, touched, afterStep}
 use Rattle.step_shape.specs.TakenPremises.{Taken, takes}
@@ -113,9 +113,9 @@ module _ (s : List ℕ) (k : ℕ) (o : List ℕ) (u d : List Bool) where
 
         module _ (told : cited ≡ None) where
           -- What holds once 12 to 16 have let the step pass.
-          pub standing : k < count s step-part → EarlierNumbered s k → Standing s k
+          pub shaped-step : k < count s step-part → EarlierNumbered s k → ShapedStep s k
           unfolding failureMeant
-          standing inside earlier =
+          shaped-step inside earlier =
               record { inside = inside; shaped = fine; earlier = earlier; premises = rw (← e, ← f) premises-below; cites = cited-entry k (sym (ap failureMeant told) ∙ is) }
 
           -- 17 to 19 decide.
@@ -176,7 +176,7 @@ module _ (s : List ℕ) (k : ℕ) (o : List ℕ) (u c d : List Bool) (r : Judged
   pub stepped-accepted :
       (left : ℕ) (c′ d′ : List Bool) (n : Names) (e : Effect) (a : ℕ) →
       n ≡ ruleOf (caseOf s) k .names → e ≡ ruleOf (caseOf s) k .effect → a ≡ stepArgument s k → r .fault ≡ None → k < 2048 →
-      labelsOf left ≡ leaves e a (labelsOf (r .above .bits)) → Marked n a c d c′ d′ → Stepped s k (stateOf o u c d) None (set o k left) u′ c′ d′
+      labelsOf left ≡ leaves e a (labelsOf (r .above .bits)) → CitedMarked n a c d c′ d′ → Stepped s k (stateOf o u c d) None (set o k left) u′ c′ d′
   unfolding aboveTold afterStep byRun next stateOf caseOf failureMeant
   stepped-accepted left c′ d′ n e a n-is e-is a-is told few leaving m =
       let passed : accepts tt ≡ inOrder (stepChecks (caseOf s) k (stateOf o u c d)) = sym (ap failureMeant told) ∙ j .is c in

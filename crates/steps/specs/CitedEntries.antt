@@ -33,7 +33,7 @@ pub record EntryThere (s : List ℕ) (r : RuleShape) (a : ℕ) : Type 0 where
   pub added : isAdding (r .effect) ≡ true → a < count s label-part
 
 -- The two tables with the entry that the step cites.
-pub record Marked (n : Names) (a : ℕ) (c d c′ d′ : List Bool) : Type 0 where
+pub record CitedMarked (n : Names) (a : ℕ) (c d c′ d′ : List Bool) : Type 0 where
   pub cited-long : length c′ ≡ 1024
   pub discharged-long : length d′ ≡ 64
   pub cited : marks c′ ≡ markIf (isARow n) (marks c) a

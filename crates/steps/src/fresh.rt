@@ -14,8 +14,8 @@ ghost use Rattle.definition.specs.15-Records.{formulas, stepRule, stepFormula, 
 ghost use Rattle.definition.specs.17-Case.{caseOf};
 ghost use Rattle.tables.specs.Sets.{labelsOf};
 ghost use Rattle.case_file.specs.LentCase.{Lent};
-ghost use Rattle.case_parts.specs.StepRecord.{IsStep};
-ghost use Rattle.case_parts.specs.StandingSteps.{Standing};
+ghost use Rattle.case_parts.specs.StepRecord.{StepFields};
+ghost use Rattle.case_parts.specs.ShapedSteps.{ShapedStep};
 ghost use Rattle.steps.specs.OpenLabels.{inOpenLabels};
 
 // Is label `l` in the set, and does the term stand in its formula? The formula of a label that is not open is not walked.
@@ -50,7 +50,7 @@ fn in_open_labels(file: &[u8], book: &[u8], term: u16, above: OpenSet) -> bool
 // Check 19 of step `k`. `above` are the labels that its premises leave open together.
 pub fn not_fresh(file: &[u8], book: &[u8], k: usize, step: Step, above: OpenSet) -> bool
     requires { ⌜ Lent (now file) (now book) ⌝ }
-    requires { ⌜ Standing (now file) k × IsStep (now file) k step ⌝ }
+    requires { ⌜ ShapedStep (now file) k × StepFields (now file) k step ⌝ }
     ensures { λ r. ⌜ r ≡ (eqb (stepRule (now (file .entry)) k) 14 && (has (this-term (stepArgument (now (file .entry)) k)) 0 (treeIn (formulas (now (file .entry))) (stepFormula (now (file .entry)) k)) || inOpenLabels (caseOf (now (file .entry))) (stepArgument (now (file .entry)) k) (labelsOf (above .bits)))) ⌝ }
 {
     if step.rule != 14 {

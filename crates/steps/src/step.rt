@@ -23,14 +23,14 @@ ghost use Rattle.definition.specs.11-Layout.{step-part, count};
 ghost use Rattle.definition.specs.17-Case.{caseOf};
 ghost use Rattle.definition.specs.22-Steps.{State, leaves as leavesOf, ruleOf, useChecks};
 ghost use Rattle.words.specs.Meanings.{failureMeant};
-ghost use Rattle.case_parts.specs.StepRecord.{IsStep};
+ghost use Rattle.case_parts.specs.StepRecord.{StepFields};
 ghost use Rattle.tables.specs.Sets.{labelsOf, marks};
 ghost use Rattle.case_file.specs.LentCase.{CaseLent};
-ghost use Rattle.case_parts.specs.StandingSteps.{EarlierNumbered};
+ghost use Rattle.case_parts.specs.ShapedSteps.{EarlierNumbered};
 ghost use Rattle.step_shape.specs.Meanings.{namesMeant, effectMeant, shapeMeant};
 ghost use Rattle.step_shape.specs.RuleLines.{shapeOf};
-ghost use Rattle.case_parts.specs.StandingSteps.{Standing};
-ghost use Rattle.steps.specs.CitedEntries.{LabelThere, CitedThere, Marked};
+ghost use Rattle.case_parts.specs.ShapedSteps.{ShapedStep};
+ghost use Rattle.steps.specs.CitedEntries.{LabelThere, CitedThere, CitedMarked};
 ghost use Rattle.steps.specs.OpenLabels.{eachUseLabels, AboveIn};
 ghost use Rattle.steps.specs.StepAnswers.{RefusedBy, JudgedAs, Stepped};
 ghost use Rattle.steps.specs.WorkingTables.{stateOf, Tables};
@@ -50,7 +50,7 @@ fn leaves(effect: Effect, argument: u16, above: OpenSet) -> OpenSet
 // Marks the row or the obligation that a step cites.
 fn mark_cited(names: Names, argument: u16, cited: &mut [bool; 1024], discharged: &mut [bool; 64])
     requires { ⌜ (length (now cited) ≡ 1024) × (length (now discharged) ≡ 64) × CitedThere (namesMeant names) argument ⌝ }
-    ensures { λ _. ⌜ Marked (namesMeant names) argument (now (cited .entry)) (now (discharged .entry)) (now (cited .exit)) (now (discharged .exit)) ⌝ }
+    ensures { λ _. ⌜ CitedMarked (namesMeant names) argument (now (cited .entry)) (now (discharged .entry)) (now (cited .exit)) (now (discharged .exit)) ⌝ }
 {
     match names {
         Names::Nothing => {}
@@ -79,7 +79,7 @@ fn check_uses(
     discharged: &[bool; 64],
 ) -> Failure
     requires { ⌜ CaseLent (now file) (now book) (now views) × (length (now discharged) ≡ 64) ⌝ }
-    requires { ⌜ Standing (now file) k × IsStep (now file) k step ⌝ }
+    requires { ⌜ ShapedStep (now file) k × StepFields (now file) k step ⌝ }
     requires { ⌜ (shapeMeant shape ≡ shapeOf (ruleOf (caseOf (now file)) k)) × (labelsOf (each_use .bits) ≡ eachUseLabels (now file)) ⌝ }
     ensures { λ r. ⌜ ((s : State) → s .discharged ≡ marks (now (discharged .entry)) → AboveIn (caseOf (now (file .entry))) k s (labelsOf (above .labels .bits)) (above .shared) → failureMeant r ≡ inOrder (useChecks (caseOf (now (file .entry))) k s)) ⌝ }
 {
@@ -130,7 +130,7 @@ fn check_step(
 ) -> Judged
     requires { ⌜ CaseLent (now file) (now book) (now views) × (labelsOf (each_use .bits) ≡ eachUseLabels (now file)) ⌝ }
     requires { ⌜ (k < count (now file) step-part) × EarlierNumbered (now file) k ⌝ }
-    requires { ⌜ IsStep (now file) k step × (shapeMeant shape ≡ shapeOf (ruleOf (caseOf (now file)) k)) ⌝ }
+    requires { ⌜ StepFields (now file) k step × (shapeMeant shape ≡ shapeOf (ruleOf (caseOf (now file)) k)) ⌝ }
     requires { ⌜ (length (now opens) ≡ 2048) × (length (now used) ≡ 2048) × (length (now discharged) ≡ 64) ⌝ }
     ensures { λ r. ⌜ JudgedAs (now (file .entry)) k (now (opens .entry)) (now (used .entry)) (now (discharged .entry)) r (now (used .exit)) ⌝ }
 {

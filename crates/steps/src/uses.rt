@@ -22,7 +22,7 @@ ghost use Rattle.definition.specs.22-Steps.{isAnObligation, isAdding};
 ghost use Rattle.tables.specs.Sets.{labelsOf, marks};
 ghost use Rattle.steps.specs.OpenLabels.{eachUseBelow, eachUseLabels, OneMore, IsAbove, twiceUsed};
 ghost use Rattle.steps.specs.CitedEntries.{ObligationThere, LabelThere, EntryThere};
-ghost use Rattle.case_parts.specs.StandingSteps.{PremisesBelow};
+ghost use Rattle.case_parts.specs.ShapedSteps.{PremisesBelow};
 ghost use Rattle.step_shape.specs.Meanings.{namesMeant, effectMeant, shapeMeant};
 
 // What the premises of a step leave open together, and whether two of them leave the same each-use label open.

@@ -6,9 +6,9 @@ use native.Mathlib.Omega.{arith}
 use Rattle.definition.specs.17-Case.{caseOf}
 use Rattle.definition.specs.21-Rules.{rule, rules, ruleAt}
 use Rattle.case_file.specs.LentCase.{Numbered}
-use Rattle.case_parts.specs.StandingSteps.{CitedEntry}
+use Rattle.case_parts.specs.ShapedSteps.{CitedEntry}
 use Rattle.rules.proofs.RuleNumbers.{label-there, condition-there, row-there, names-supposed, names-condition, names-row, premised}
-use Rattle.rules.proofs.StandingStepLaws.{rule-number, own-numbered, premises-there, cites, refused, refused-none, refused-all, place-few}
+use Rattle.rules.proofs.ShapedStepLaws.{rule-number, own-numbered, premises-there, cites, refused, refused-none, refused-all, place-few}
 use Rattle.rules.proofs.sixteen.check_fit.Statement.{statement}
 use Rattle.rules.proofs.sixteen.check_fit.Tie as tie
 

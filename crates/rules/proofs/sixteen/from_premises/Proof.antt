@@ -3,7 +3,7 @@ use borrow.Author.Needs.{needs}
 use Rattle.case_file.proofs.LentCaseLaws.{parted}
 use Rattle.rules.proofs.CitedFormulas.{numbered}
 use Rattle.rules.proofs.RuleNumbers.{no-argument, an-argument}
-use Rattle.rules.proofs.StandingStepLaws.{own-numbered, first-premise, second-premise, by-two, by-one, cites, fits-one, fits-two}
+use Rattle.rules.proofs.ShapedStepLaws.{own-numbered, first-premise, second-premise, by-two, by-one, cites, fits-one, fits-two}
 use Rattle.rules.proofs.sixteen.from_premises.Statement.{statement}
 use Rattle.rules.proofs.sixteen.from_premises.Tie as tie
 

@@ -12,7 +12,7 @@ use Rattle.definition.specs.17-Case.{caseOf}
 use Rattle.words.specs.Meanings.{failureMeant}
 use Rattle.case_file.specs.Seen.{codeView}
 use Rattle.case_file.specs.Meanings.{viewMeant}
-use Rattle.case_file.specs.declared.log.View.the-variants.{Shows}
+use Rattle.case_file.specs.declared.log_checks.View.the-variants.{Shows}
 use Rattle.definition.specs.21-Rules.{isThat, seenRow}
 use Rattle.rules.specs.Policies.{policyMeant}
 use Rattle.case_file.proofs.LentCaseLaws.{parted}

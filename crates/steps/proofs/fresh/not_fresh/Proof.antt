@@ -6,7 +6,7 @@ use Rattle.formula_rows.specs.Meanings.{soughtMeant}
 use Rattle.formula_book.proofs.Laws.{term-present}
 use Rattle.rules.proofs.ComparedRows.{good-row}
 use Rattle.rules.proofs.RuleNumbers.{term-there, names-term}
-use Rattle.rules.proofs.StandingStepLaws.{own-numbered, cites}
+use Rattle.rules.proofs.ShapedStepLaws.{own-numbered, cites}
 use Rattle.steps.proofs.FreshTerms.{other-rule, in-formula, in-labels}
 use Rattle.steps.proofs.fresh.not_fresh.Statement.{statement}
 use Rattle.steps.proofs.fresh.not_fresh.Tie as tie

@@ -8,11 +8,11 @@ use Rattle.definition.specs.15-Records.{stepArgument}
 use Rattle.definition.specs.17-Case.{caseOf}
 use Rattle.definition.specs.22-Steps.{ruleOf, misshapen, citationChecks}
 use Rattle.case_file.proofs.LentCaseLaws.{parted, booked, steps-few}
-use Rattle.rules.proofs.StandingStepLaws.{shaped}
+use Rattle.rules.proofs.ShapedStepLaws.{shaped}
 use Rattle.step_shape.specs.Meanings.{shapeMeant}
 use Rattle.step_shape.specs.RuleLines.{shapeOf, ruleShape}
 use Rattle.words.specs.Meanings.{failureMeant}
-use Rattle.steps.proofs.StepBranches.{judged-12, judged-13, judged-missing, judged-use, premises-below, standing}
+use Rattle.steps.proofs.StepBranches.{judged-12, judged-13, judged-missing, judged-use, premises-below, shaped-step}
 use Rattle.steps.proofs.step.check_step.Statement.{statement}
 use Rattle.steps.proofs.step.check_step.Tie as tie
 
@@ -102,7 +102,7 @@ check-uses-requires c κs =
     let st = begin t in
     let pre = st .pre in
     let is = pre .1 .1 .0 .0 in
-    let stands = standing _ _ (st .args .opens .now) _ (st .args .discharged .now) _ _ _ _ (fine t) (is .from) (is .len) (t .take-premises .ensures) (e .if2 .left) _ (cites cited) (told .enum-told .given .1) (pre .1 .0 .0) (pre .1 .0 .1) in
+    let stands = shaped-step _ _ (st .args .opens .now) _ (st .args .discharged .now) _ _ _ _ (fine t) (is .from) (is .len) (t .take-premises .ensures) (e .if2 .left) _ (cites cited) (told .enum-told .given .1) (pre .1 .0 .0) (pre .1 .0 .1) in
     ((pre .0 .0, pre .1 .1 .1 .2), ((stands, is), (pre .1 .1 .0 .1, pre .0 .1)))
 
 returns-3 : tie.Need-returns-3

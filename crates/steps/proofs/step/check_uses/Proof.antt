@@ -7,7 +7,7 @@ use Rattle.definition.specs.04-Checks.{AllHold}
 use Rattle.definition.specs.17-Case.{caseOf}
 use Rattle.definition.specs.22-Steps.{State, ruleOf, premisesOf, usedTwice, notFresh, fitChecks, useChecks}
 use Rattle.case_file.proofs.LentCaseLaws.{parted}
-use Rattle.rules.proofs.StandingStepLaws.{place-few}
+use Rattle.rules.proofs.ShapedStepLaws.{place-few}
 use Rattle.tables.specs.Sets.{labelsOf, marks}
 use Rattle.words.specs.Meanings.{failureMeant}
 use Rattle.steps.specs.OpenLabels.{AboveIn, twiceUsed, staleTerm}

@@ -9,7 +9,7 @@ use Rattle.definition.specs.22-Steps.{ruleOf}
 use Rattle.case_file.proofs.LentCaseLaws.{parted, steps-few}
 use Rattle.step_shape.specs.Meanings.{namesMeant, effectMeant, shapeMeant}
 use Rattle.step_shape.specs.RuleLines.{shapeOf, ruleShape}
-use Rattle.case_parts.specs.StandingSteps.{CitedEntry}
+use Rattle.case_parts.specs.ShapedSteps.{CitedEntry}
 use Rattle.words.specs.Meanings.{failureMeant}
 use Rattle.steps.proofs.EntriesThere.{entries-there, cited-there, label-there-as, cited-there-as}
 use Rattle.steps.proofs.StepBranches.{no-fault, stepped-refused, stepped-accepted}

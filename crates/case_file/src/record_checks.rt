@@ -1,0 +1,150 @@
+// Checks 6 to 9: the conditions, the obligations, the labels, and what is audited.
+use crate::formula_numbers::closed_action;
+use crate::formula_numbers::closed_policy;
+use crate::formula_numbers::ground_action;
+use crate::formula_numbers::ground_predicate;
+use case_parts::CONDITIONS;
+use case_parts::LABELS;
+use case_parts::OBLIGATIONS;
+use case_parts::action_of;
+use case_parts::agent_of;
+use case_parts::condition_formula;
+use case_parts::count_of;
+use case_parts::label_formula;
+use case_parts::label_mark;
+use case_parts::obligation_action;
+use case_parts::obligation_mark;
+use formula_rows::Term;
+use words::Failure;
+ghost use mathlib.Core.Path.{_≡_};
+ghost use Prim.Native.Nat.{_<_, _≤_};
+ghost use Rattle.definition.specs.02-Ranges.{lowest};
+ghost use Rattle.definition.specs.04-Checks.{inOrder};
+ghost use Rattle.definition.specs.11-Layout.{count, condition-part, obligation-part, label-part};
+ghost use Rattle.definition.specs.18-Admission.{Parted};
+ghost use Rattle.case_file.specs.Booked.{Booked};
+ghost use Rattle.definition.specs.15-Records.{formulas as formulasOf, isDuty, badCondition, badObligation, badLabel, badAudit, recordChecks};
+ghost use Rattle.words.specs.Meanings.{failureMeant};
+ghost use Rattle.case_file.specs.Entries.{badEntry};
+
+// Check 6 of entry `k`. An absent condition is no fault.
+fn bad_condition(file: &[u8], book: &[u8], formulas: usize, k: usize) -> bool
+    requires { ⌜ Parted (now file) × Booked (now file) (now book) formulas ⌝ }
+    requires { ⌜ k < count (now file) condition-part ⌝ }
+    ensures { λ r. ⌜ r ≡ badCondition (now (file .entry)) (formulasOf (now (file .entry))) k ⌝ }
+{
+    let condition = condition_formula(file, k);
+    if condition == Term::ABSENT {
+        return false;
+    }
+    !ground_predicate(book, formulas, condition)
+}
+
+// Each use, or once.
+fn is_duty(mark: u16) -> bool
+    ensures { λ r. ⌜ r ≡ isDuty mark ⌝ }
+{
+    if mark == 1 {
+        return true;
+    }
+    mark == 2
+}
+
+// Check 7 of entry `k`.
+fn bad_obligation(file: &[u8], book: &[u8], formulas: usize, k: usize) -> bool
+    requires { ⌜ Parted (now file) × Booked (now file) (now book) formulas ⌝ }
+    requires { ⌜ k < count (now file) obligation-part ⌝ }
+    ensures { λ r. ⌜ r ≡ badObligation (now (file .entry)) (formulasOf (now (file .entry))) k ⌝ }
+{
+    let mark = obligation_mark(file, k);
+    if !is_duty(mark) {
+        return true;
+    }
+    let duty = obligation_action(file, k);
+    !ground_action(book, formulas, duty)
+}
+
+// Check 8 of entry `k`.
+fn bad_label(file: &[u8], book: &[u8], formulas: usize, k: usize) -> bool
+    requires { ⌜ Parted (now file) × Booked (now file) (now book) formulas ⌝ }
+    requires { ⌜ k < count (now file) label-part ⌝ }
+    ensures { λ r. ⌜ r ≡ badLabel (now (file .entry)) (formulasOf (now (file .entry))) k ⌝ }
+{
+    let mark = label_mark(file, k);
+    let formula = label_formula(file, k);
+    if mark == 0 {
+        return !closed_policy(book, formulas, formula);
+    }
+    if is_duty(mark) {
+        return !closed_action(book, formulas, formula);
+    }
+    true
+}
+
+// Checks 6 to 8 of entry `k`, by its part: the conditions, the obligations or the labels.
+fn bad_entry(file: &[u8], book: &[u8], formulas: usize, p: usize, k: usize) -> bool
+    requires { ⌜ Parted (now file) × Booked (now file) (now book) formulas ⌝ }
+    requires { ⌜ (condition-part ≤ p) × (p ≤ label-part) × (k < count (now file) p) ⌝ }
+    ensures { λ r. ⌜ r ≡ badEntry (now (file .entry)) (formulasOf (now (file .entry))) p k ⌝ }
+{
+    if p == CONDITIONS {
+        return bad_condition(file, book, formulas, k);
+    }
+    if p == OBLIGATIONS {
+        return bad_obligation(file, book, formulas, k);
+    }
+    bad_label(file, book, formulas, k)
+}
+
+// The first bad entry of part `p`, or the number of its entries.
+fn first_bad(file: &[u8], book: &[u8], formulas: usize, p: usize) -> usize
+    requires { ⌜ Parted (now file) × Booked (now file) (now book) formulas ⌝ }
+    requires { ⌜ (condition-part ≤ p) × (p ≤ label-part) ⌝ }
+    ensures { λ r. ⌜ r ≡ lowest (badEntry (now (file .entry)) (formulasOf (now (file .entry))) p) (count (now (file .entry)) p) 0 ⌝ }
+{
+    let n = count_of(file, p);
+    let mut k: usize = 0;
+    while k < n {
+        if bad_entry(file, book, formulas, p, k) {
+            return k;
+        }
+        k += 1;
+    }
+    n
+}
+
+// Check 9: is the agent no agent, or the action no ground action?
+fn bad_audit(file: &[u8], book: &[u8], formulas: usize) -> bool
+    requires { ⌜ Parted (now file) × Booked (now file) (now book) formulas ⌝ }
+    ensures { λ r. ⌜ r ≡ badAudit (now (file .entry)) (formulasOf (now (file .entry))) ⌝ }
+{
+    let agent = agent_of(file);
+    if Term::AGENTS_END <= agent {
+        return true;
+    }
+    let action = action_of(file);
+    !ground_action(book, formulas, action)
+}
+
+// Checks 6 to 9.
+pub fn check_records(file: &[u8], book: &[u8], formulas: usize) -> Failure
+    requires { ⌜ Parted (now file) × Booked (now file) (now book) formulas ⌝ }
+    ensures { λ r. ⌜ failureMeant r ≡ inOrder (recordChecks (now (file .entry))) ⌝ }
+{
+    let condition = first_bad(file, book, formulas, CONDITIONS);
+    if condition < count_of(file, CONDITIONS) {
+        return Failure::At(6, condition as u16);
+    }
+    let obligation = first_bad(file, book, formulas, OBLIGATIONS);
+    if obligation < count_of(file, OBLIGATIONS) {
+        return Failure::At(7, obligation as u16);
+    }
+    let label = first_bad(file, book, formulas, LABELS);
+    if label < count_of(file, LABELS) {
+        return Failure::At(8, label as u16);
+    }
+    if bad_audit(file, book, formulas) {
+        return Failure::At(9, 0);
+    }
+    Failure::None
+}

@@ -1,0 +1,165 @@
+-- A step that checks 12 to 16 have let pass: its formula and its premises are there, and its rule's test is that of the definition. Assumes nothing.
+use Prim.Native.Nat.{ℕ, zero, suc, _+_, _≤_, _<_}
+use mathlib.Core.Path.{_≡_, refl, sym, ap, _∙_}
+use mathlib.Core.Bool.{Bool, true, false, not, _&&_}
+use mathlib.Core.Logic.{_⊎_}
+use mathlib.Core.List.{List, [], _∷_, map}
+use native.Mathlib.Omega.{arith}
+use lib.Dec.{eqb, ltb}
+use borrow.Author.Tests.{ltb-false, not-false}
+use Rattle.definition.specs.01-Words.{absent}
+use Rattle.definition.specs.02-Ranges.{listed}
+use Rattle.definition.specs.04-Checks.{Checked, single, inOrder}
+use Rattle.definition.proofs.Tests.{and-true, or-false}
+use Rattle.definition.specs.13-Formulas.{isPolicy, closed}
+use Rattle.definition.specs.14-Book.{treeIn, book as trees}
+use Rattle.formula_book.proofs.Laws.{number-inside}
+use Rattle.definition.specs.11-Layout.{formula-part, step-part, premise-part, part, count}
+use Rattle.definition.specs.15-Records.{formulas, stepRule, stepFormula, stepArgument, stepFrom, stepCount, premiseStep, badSpan}
+use Rattle.definition.specs.17-Case.{caseOf}
+use Rattle.case_file.proofs.Laws.{admitted-booked}
+use Rattle.definition.proofs.Spans.{span-holds}
+use Rattle.definition.specs.21-Rules.{ruleAt}
+use Rattle.definition.specs.22-Steps.{ruleOf, premisesOf, mustBeAbsent, misshapen, misfit, fitChecks}
+use Rattle.case_file.specs.LentCase.{Lent, Numbered}
+use Rattle.case_parts.specs.StepRecord.{StepFields}
+use Rattle.case_parts.specs.ShapedSteps.{CitedEntry, ShapedStep}
+use Rattle.rules.specs.PremiseFormulas.{PremiseThere, PremisesThere, premiseTrees, OneOfThree, Argued, Premised}
+use Rattle.case_parts.specs.declared.records.Step.{Step}
+use Rattle.case_file.proofs.LentCaseLaws.{parted, steps-few}
+use Rattle.rules.proofs.CitedFormulas.{numbered, named}
+use Rattle.rules.proofs.RuleNumbers.{some-premise, of-two, of-one, without-premise}
+
+map-listed : {A B : Type 0} (f : A → B) (g : ℕ → A) (n i : ℕ) → map f (listed g n i) ≡ listed (λ j. f (g j)) n i
+unfolding listed
+map-listed f g zero i = refl
+map-listed {B} f g (suc n) i = ap {B = List B} (λ l. f (g i) ∷ l) (map-listed f g n (i + 1))
+
+not-not : (b : Bool) → b ≡ not (not b)
+not-not true = refl
+not-not false = refl
+
+-- What check 12 tests of step k, one by one.
+pub record Shaped (s : List ℕ) (k : ℕ) : Type 0 where
+  pub number : stepRule s k < 16
+  pub policy : isPolicy (treeIn (formulas s) (stepFormula s k)) ≡ true
+  pub span : stepFrom s k + stepCount s k ≤ count s premise-part
+  pub least : ruleAt (stepRule s k) .least ≤ stepCount s k
+  pub most : stepCount s k ≤ ruleAt (stepRule s k) .most
+
+pub shaped : (s : List ℕ) (k : ℕ) → misshapen (caseOf s) k ≡ false → Shaped s k
+unfolding misshapen ruleOf caseOf
+shaped s k e =
+    let f = treeIn (formulas s) (stepFormula s k) in
+    let five = or-false _ (mustBeAbsent (ruleAt (stepRule s k) .names) && not (eqb (stepArgument s k) absent)) e .0 in
+    let most = or-false _ (ltb (ruleAt (stepRule s k) .most) (stepCount s k)) five in
+    let least = or-false _ (ltb (stepCount s k) (ruleAt (stepRule s k) .least)) (most .0) in
+    let span = or-false _ (badSpan (stepFrom s) (stepCount s) (count s step-part) (count s premise-part) k) (least .0) in
+    let formula = or-false (ltb 15 (stepRule s k)) (not (isPolicy f && closed f)) (span .0) in
+    record {
+      number = let h = ltb-false 15 (stepRule s k) (formula .0) in omega arith;
+      policy = and-true (isPolicy f) (closed f) (not-false (isPolicy f && closed f) (formula .1)) .0;
+      span = span-holds (stepFrom s) (stepCount s) (count s step-part) (count s premise-part) k (span .1) .within;
+      least = ltb-false (stepCount s k) (ruleAt (stepRule s k) .least) (least .1);
+      most = ltb-false (ruleAt (stepRule s k) .most) (stepCount s k) (most .1);
+    }
+
+-- A well-shaped step has a formula of the book.
+pub formula-inside : {s b : List ℕ} (k : ℕ) → Lent s b → misshapen (caseOf s) k ≡ false → stepFormula s k < count s formula-part
+unfolding formulas isPolicy
+formula-inside {s} k lent fine =
+    number-inside (part s formula-part) (count s formula-part) (stepFormula s k) isPolicy (admitted-booked s (lent .admitted) .passes) refl (shaped s k fine .policy)
+
+module _ {s b : List ℕ} {k : ℕ} (lent : Lent s b) (st : ShapedStep s k) {t : Step} (is : StepFields s k t) where
+  shape : Shaped s k
+  shape = shaped s k (st .shaped)
+
+  pub rule-number : t .rule < 16
+  rule-number = omega (arith, shape .number, is .rule)
+
+  pub least-premises : ruleAt (t .rule) .least ≤ t .len
+  least-premises = rw (is .rule, is .len) (shape .least)
+
+  pub most-premises : t .len ≤ ruleAt (t .rule) .most
+  most-premises = rw (is .rule, is .len) (shape .most)
+
+  pub own-policy : isPolicy (treeIn (trees b) (t .formula)) ≡ true
+  own-policy = ap isPolicy (named lent (is .formula)) ∙ shape .policy
+
+  pub own-numbered : Numbered b (t .formula)
+  own-numbered = rw (is .formula) (numbered lent (formula-inside k lent (st .shaped)))
+
+  pub premises-there : PremisesThere s (t .from) (t .len)
+  premises-there j from to =
+      let below = st .premises j (omega (arith, is .from, from)) (omega (arith, is .from, is .len, to)) in
+      record {
+        entry = omega (arith, is .from, is .len, to, shape .span);
+        step = omega (arith, below, st .inside);
+        formula = st .earlier (premiseStep s j) below;
+      }
+
+  pub cites : CitedEntry (caseOf s) (ruleAt (t .rule) .names) (t .argument)
+  unfolding ruleOf caseOf
+  cites = rw (is .rule, is .argument) (st .cites)
+
+  -- The test of the rule, on what was read of the step.
+  pub fits-is :
+      ruleAt (t .rule) .fits (caseOf s) (treeIn (trees b) (t .formula)) (t .argument) (premiseTrees s (t .from) (t .len)) ≡ not (misfit (caseOf s) k)
+  unfolding misfit ruleOf premisesOf caseOf premiseTrees
+  fits-is =
+      let ps = map-listed (λ p. treeIn (formulas s) (stepFormula s p)) (premiseStep s) (stepCount s k) (stepFrom s k) in
+      rw (is .rule, named lent (is .formula), is .argument, is .from, is .len, ps) (not-not _)
+
+  module _ {q : Bool} where
+    -- no premise, one premise, two
+    pub fits-none : t .len ≡ 0 → q ≡ ruleAt (t .rule) .fits (caseOf s) (treeIn (trees b) (t .formula)) (t .argument) [] → q ≡ not (misfit (caseOf s) k)
+    unfolding premiseTrees listed
+    fits-none len e = e ∙ (rw len at fits-is)
+
+    pub fits-one :
+        {p : ℕ} → t .len ≡ 1 → p ≡ stepFormula s (premiseStep s (t .from)) →
+        q ≡ ruleAt (t .rule) .fits (caseOf s) (treeIn (trees b) (t .formula)) (t .argument) (treeIn (trees b) p ∷ []) → q ≡ not (misfit (caseOf s) k)
+    unfolding premiseTrees listed
+    fits-one len first e = e ∙ rw (named lent first) (rw len at fits-is)
+
+    pub fits-two :
+        {p r : ℕ} → t .len ≡ 2 → p ≡ stepFormula s (premiseStep s (t .from)) → r ≡ stepFormula s (premiseStep s (t .from + 1)) →
+        q ≡ ruleAt (t .rule) .fits (caseOf s) (treeIn (trees b) (t .formula)) (t .argument) (treeIn (trees b) p ∷ treeIn (trees b) r ∷ []) →
+        q ≡ not (misfit (caseOf s) k)
+    unfolding premiseTrees listed
+    fits-two len first second e = e ∙ rw (named lent first, named lent second) (rw len at fits-is)
+
+  -- The premises of a rule that has one or two.
+  pub first-premise : Premised (t .rule) → PremiseThere s (t .from)
+  first-premise h = premises-there (t .from) (omega arith) (let some = some-premise least-premises most-premises h in omega arith)
+
+  pub second-premise : t .len ≡ 2 → PremiseThere s (t .from + 1)
+  second-premise len = premises-there (t .from + 1) (omega arith) (omega arith)
+
+  pub by-two : Premised (t .rule) → t .len ≡ 2 → OneOfThree (t .rule) 4 6 10
+  by-two = of-two least-premises most-premises
+
+  pub by-one : Premised (t .rule) → (t .len ≡ 2 → ⊥) → (OneOfThree (t .rule) 3 7 8 ⊎ Argued (t .rule)) × (t .len ≡ 1)
+  by-one = of-one least-premises most-premises
+
+  pub by-none : OneOfThree (t .rule) 0 1 2 → t .len ≡ 0
+  by-none = without-premise least-premises most-premises
+
+  -- Check 18, from the answer q of the test.
+  pub refused : (q : Bool) {x : Checked (Unit {0})} → q ≡ not (misfit (caseOf s) k) → x ≡ inOrder (single 18 k (not q) ∷ []) → x ≡ inOrder (fitChecks (caseOf s) k)
+  unfolding fitChecks
+  refused q e h = h ∙ ap (λ b. inOrder (single 18 k b ∷ [])) (ap not e ∙ sym (not-not (misfit (caseOf s) k)))
+
+  pub refused-none :
+      (r : ℕ) → t .rule ≡ r → OneOfThree r 0 1 2 → (q : Bool) {x : Checked (Unit {0})} → q ≡ ruleAt r .fits (caseOf s) (treeIn (trees b) (t .formula)) (t .argument) [] →
+      x ≡ inOrder (single 18 k (not q) ∷ []) → x ≡ inOrder (fitChecks (caseOf s) k)
+  refused-none r e which q fits = refused q (fits-none (by-none (rw e which)) (rw e fits))
+
+  pub refused-all :
+      (r : ℕ) → t .rule ≡ r → (q : Bool) {x : Checked (Unit {0})} → q ≡ ruleAt r .fits (caseOf s) (treeIn (trees b) (t .formula)) (t .argument) (premiseTrees s (t .from) (t .len)) →
+      x ≡ inOrder (single 18 k (not q) ∷ []) → x ≡ inOrder (fitChecks (caseOf s) k)
+  refused-all r e q fits = refused q (rw e fits ∙ fits-is)
+
+  -- The step's number fits 16 bits.
+  pub place-few : k < 2048
+  place-few = omega (arith, st .inside, steps-few s (parted lent))
