@@ -11,6 +11,7 @@ use borrow.Author.Tests.{lt-ltb, le-ltb}
 use Rattle.definition.proofs.CheckLaws.{stops, goes-on, hold-all}
 use Rattle.definition.proofs.PromiseLaws as promises
 use Rattle.definition.proofs.States.{stateAt, run-fine}
+use Rattle.definition.proofs.StepLaws.{fine-shaped}
 use Rattle.definition.specs.04-Checks.{Checked, accepts, refuses, _>>_, _>>=_, single, inOrder}
 use Rattle.definition.specs.11-Layout.{formula-part, step-part, part, count}
 use Rattle.definition.specs.13-Formulas.{Formula}
@@ -80,7 +81,7 @@ proof-run c room s e = rw e
 -- Where all steps have passed, each has a formula of the book.
 pub all-numbered : {s b : List ℕ} {t : State} → Lent s b → runFrom (caseOf s) (caseOf s .steps) 0 startState ≡ accepts t → EarlierNumbered s (count s step-part)
 unfolding stateAt caseOf
-all-numbered {s} {b} {t} lent e j lt = formula-inside j lent (run-fine (caseOf s) (caseOf s .steps) 0 t e .1 j (omega arith) (omega arith) .shape)
+all-numbered {s} {b} {t} lent e j lt = formula-inside j lent (fine-shaped (caseOf s) j _ (run-fine (caseOf s) (caseOf s .steps) 0 t e .1 j (omega arith) (omega arith)))
 
 -- Checks 10 and 11.
 module _ (c : Case) (room : List ℕ) where

@@ -21,7 +21,7 @@ use Rattle.definition.specs.03-Lists.{Among}
 use Rattle.definition.specs.04-Checks.{Checked, accepts}
 use Rattle.definition.specs.17-Case.{Case, caseOf}
 use Rattle.definition.specs.21-Rules.{Names, rule, rules, ruleAt}
-use Rattle.definition.specs.22-Steps.{State, startState, ruleOf, citesNothing, isARow, isAnObligation, markIf, next}
+use Rattle.definition.specs.22-Steps.{State, startState, ruleOf, citesNothing, isARow, isAnObligation, markIf, next, citationChecks}
 use Rattle.definition.specs.31-Outcome.{passed, Finding, justified, dischargedList, citedList, finding, report, outcome}
 use Rattle.definition.specs.44-Demands.{Cites, PassLists, EachUseOnce}
 
@@ -40,14 +40,14 @@ module _ (c : Case) (fine : (k : ℕ) → k < c .steps → Fine c k (stateAt c k
     (there : (a : ℕ) → citesNothing c (ruleAt r .names) a ≡ false → a < count)
   where
     listed-cited : (x : ℕ) → Among x (members (marks (finalState c)) count 0) ↔ Cites c r x
-    unfolding finalState ruleOf
+    unfolding finalState ruleOf citationChecks
     listed-cited x = (
       λ m.
           let h = members-among (marks (stateAt c (c .steps))) count 0 x .0 m in
           let b = cited-before c marks named empty turn (c .steps) x (h .2) in
           (b .0, b .1, only (c .step (b .0) .rule) (fine-parts c (b .0) (stateAt c (b .0)) (fine (b .0) (b .1)) .local .number) (b .2), b .3),
       λ q.
-          let lt : x < count = there x (rw (q .2, q .3) at (fine (q .0) (q .1) .there)) in
+          let lt : x < count = there x (rw (q .2, q .3) at (fine-parts c (q .0) (stateAt c (q .0)) (fine (q .0) (q .1)) .local .tests .cites .1 .0)) in
           members-among (marks (stateAt c (c .steps))) count 0 x .1
           (omega arith, omega arith, before-cited c marks named empty turn (c .steps) (q .0) x (q .1) (rw (q .2) that) (q .3)),
     )

@@ -1,7 +1,7 @@
 -- The tests of one step say what the sixteen rules say: rule by rule, there and back. Assumes nothing.
 use Prim.Native.Nat.{ℕ, _≤_, _<_}
 use mathlib.Core.Path.{_≡_, refl, sym, ap, ap₂, _∙_, subst, subst₃}
-use mathlib.Core.Bool.{true, false, cond, not, and-false, _&&_, _||_}
+use mathlib.Core.Bool.{Bool, true, false, cond, not, and-false, _&&_, _||_}
 use mathlib.Core.Logic.{inl, inr, ⊎-elim, _↔_}
 use mathlib.Core.Option.{Option, none, some}
 use mathlib.Core.List.{List, [], _∷_, map}
@@ -22,9 +22,10 @@ use Rattle.definition.specs.12-Terms.{Class, absent-term, classOf}
 use Rattle.definition.specs.13-Formulas.{Formula, owns, says, for-all, implies, after, each-use, once, same, this-term, has, dataOf, firstPart, secondPart, source, target, sortOf}
 use Rattle.definition.specs.15-Records.{isDuty}
 use Rattle.definition.specs.16-Views.{RowView, hidden, struck, shows}
+use Rattle.definition.specs.04-Checks.{AllHold}
 use Rattle.definition.specs.17-Case.{Case}
 use Rattle.definition.specs.21-Rules.{first, second, isThat, sameAll, conclusion, rowConclusion, suppose, conditionRow, seenRow, say, refine, owner, andIntro, andLeft, andRight, impliesIntro, impliesElim, dutyIntro, dutyByObligation, dutyByLabel, forAllIntro, forAllElim, rule, rules, ruleAt}
-use Rattle.definition.specs.22-Steps.{Labels, mustBeAbsent, isNone, citesAbsent, citesNothing, isARow, isAnObligation, isHidden, isStruck, citesHidden, citesStruck, isEachUse, isAdding, leaves}
+use Rattle.definition.specs.22-Steps.{Labels, citationChecks, mustBeAbsent, isNone, citesAbsent, citesNothing, isARow, isAnObligation, isHidden, isStruck, citesHidden, citesStruck, isEachUse, isAdding, leaves}
 use Rattle.definition.specs.41-Occurrences.{Mentions, MentionsDataVariable}
 use Rattle.definition.specs.42-Account as account
 use Rattle.definition.specs.42-Account.{Duty, DataAre, Follows, withLabel, withoutLabel}
@@ -34,10 +35,7 @@ pub record Tests (c : Case) (r : ℕ) (f : Formula) (a : ℕ) (fs : List Formula
   pub least : ltb (length fs) (ruleAt r .least) ≡ false
   pub most : ltb (ruleAt r .most) (length fs) ≡ false
   pub argument : mustBeAbsent (ruleAt r .names) && not (eqb a absent) ≡ false
-  pub present : citesAbsent c (ruleAt r .names) a ≡ false
-  pub there : citesNothing c (ruleAt r .names) a ≡ false
-  pub seen : citesHidden c (ruleAt r .names) a ≡ false
-  pub unstruck : citesStruck c (ruleAt r .names) a ≡ false
+  pub cites : AllHold (citationChecks c (ruleAt r .names) a 0)
   pub added : isAdding (ruleAt r .effect) && isEachUse c a && L a ≡ false
   pub fits : ruleAt r .fits c f a fs ≡ true
   pub fresh : eqb r 14 && (has (this-term a) 0 f || any (λ l. L l && has (this-term a) 0 (c .label l .formula)) (c .labels) 0) ≡ false
@@ -123,25 +121,25 @@ module _ (c : Case) (f : Formula) (a : ℕ) (fs : List Formula) (L : Labels) whe
   two h k p q = two-of fs h k ∙ ap₂ {C = List Formula} (λ g e. g ∷ e ∷ []) p q
 
   follows-0 : Tests c 0 f a fs L → Step-follows c 0 f a fs L
-  unfolding ruleAt rules rule suppose citesNothing leaves spends isAnObligation withLabel
+  unfolding ruleAt rules rule suppose citesNothing citationChecks leaves spends isAnObligation withLabel
   follows-0 t =
       let h = and-true _ _ (t .fits) in
       moved refl refl (none-of fs (ltb-false _ _ (t .most)))
-      (account.suppose (record { inside = inside _ _ (t .there); mark-is = eqb-true _ _ (h .0); formula-is = sym (same-true _ _ (h .1)) }))
+      (account.suppose (record { inside = inside _ _ (t .cites .1 .0); mark-is = eqb-true _ _ (h .0); formula-is = sym (same-true _ _ (h .1)) }))
 
   follows-1 : Tests c 1 f a fs L → Step-follows c 1 f a fs L
-  unfolding ruleAt rules rule conditionRow citesNothing leaves spends isAnObligation
+  unfolding ruleAt rules rule conditionRow citesNothing citationChecks leaves spends isAnObligation
   follows-1 t =
       moved refl refl (none-of fs (ltb-false _ _ (t .most)))
-      (account.condition-row (inside _ _ (t .there)) (that-is f (c .condition a) (t .fits)))
+      (account.condition-row (inside _ _ (t .cites .1 .0)) (that-is f (c .condition a) (t .fits)))
 
   follows-2 : Tests c 2 f a fs L → Step-follows c 2 f a fs L
-  unfolding ruleAt rules rule seenRow citesNothing citesHidden citesStruck isARow leaves spends isAnObligation rowConclusion
+  unfolding ruleAt rules rule seenRow citesNothing citationChecks citesHidden citesStruck isARow leaves spends isAnObligation rowConclusion
   follows-2 t =
-      let v = shown (c .row a) (t .seen) (t .unstruck) in
+      let v = shown (c .row a) (t .cites .1 .1 .0) (t .cites .1 .1 .1 .0) in
       let e : conclusion (c .agent) (v .0) ≡ some f = that-is f _ (rw (v .1) at (t .fits)) in
       moved refl refl (none-of fs (ltb-false _ _ (t .most)))
-      (account.seen-row (inside _ _ (t .there)) (v .1) (drawn (c .agent) (v .0) f .0 e))
+      (account.seen-row (inside _ _ (t .cites .1 .0)) (v .1) (drawn (c .agent) (v .0) f .0 e))
 
   follows-3 : Tests c 3 f a fs L → Step-follows c 3 f a fs L
   unfolding ruleAt rules rule say mustBeAbsent leaves spends isAnObligation
@@ -186,11 +184,11 @@ module _ (c : Case) (f : Formula) (a : ℕ) (fs : List Formula) (L : Labels) whe
       moved refl (absent-is a (t .argument)) (one (ltb-false _ _ (t .least)) (ltb-false _ _ (t .most)) (same-true _ _ (t .fits))) account.and-right
 
   follows-9 : Tests c 9 f a fs L → Step-follows c 9 f a fs L
-  unfolding ruleAt rules rule impliesIntro citesNothing leaves spends isAnObligation withoutLabel
+  unfolding ruleAt rules rule impliesIntro citesNothing citationChecks leaves spends isAnObligation withoutLabel
   follows-9 t =
       let h = and-true _ _ (t .fits) in
       moved (same-true _ _ (h .1)) refl (one (ltb-false _ _ (t .least)) (ltb-false _ _ (t .most)) refl)
-      (account.implies-intro (record { inside = inside _ _ (t .there); mark-is = eqb-true _ _ (h .0); formula-is = refl }))
+      (account.implies-intro (record { inside = inside _ _ (t .cites .1 .0); mark-is = eqb-true _ _ (h .0); formula-is = refl }))
 
   follows-10 : Tests c 10 f a fs L → Step-follows c 10 f a fs L
   unfolding ruleAt rules rule impliesElim mustBeAbsent leaves spends isAnObligation
@@ -198,25 +196,25 @@ module _ (c : Case) (f : Formula) (a : ℕ) (fs : List Formula) (L : Labels) whe
       moved refl (absent-is a (t .argument)) (two (ltb-false _ _ (t .least)) (ltb-false _ _ (t .most)) (same-true _ _ (t .fits)) refl) account.implies-elim
 
   follows-11 : Tests c 11 f a fs L → Step-follows c 11 f a fs L
-  unfolding ruleAt rules rule dutyIntro citesNothing leaves spends isAnObligation withoutLabel
+  unfolding ruleAt rules rule dutyIntro citesNothing citationChecks leaves spends isAnObligation withoutLabel
   follows-11 t =
       let h = and-true _ _ (t .fits) in
       moved (same-true _ _ (h .1)) refl (one (ltb-false _ _ (t .least)) (ltb-false _ _ (t .most)) refl)
-      (account.duty-intro (record { inside = inside _ _ (t .there); mark-is = refl; formula-is = refl }) (duty-is _ .0 (h .0)))
+      (account.duty-intro (record { inside = inside _ _ (t .cites .1 .0); mark-is = refl; formula-is = refl }) (duty-is _ .0 (h .0)))
 
   follows-12 : Tests c 12 f a fs L → Step-follows c 12 f a fs L
-  unfolding ruleAt rules rule dutyByObligation citesNothing leaves spends isAnObligation
+  unfolding ruleAt rules rule dutyByObligation citesNothing citationChecks leaves spends isAnObligation
   follows-12 t =
       let h = and-true _ _ (t .fits) in
       moved refl refl (one (ltb-false _ _ (t .least)) (ltb-false _ _ (t .most)) (same-true _ _ (h .1)))
-      (account.duty-by-obligation (record { inside = inside _ _ (t .there); mark-is = refl; formula-is = refl }) (duty-is _ .0 (h .0)))
+      (account.duty-by-obligation (record { inside = inside _ _ (t .cites .1 .0); mark-is = refl; formula-is = refl }) (duty-is _ .0 (h .0)))
 
   follows-13 : Tests c 13 f a fs L → Step-follows c 13 f a fs L
-  unfolding ruleAt rules rule dutyByLabel citesNothing leaves spends isAnObligation withLabel isAdding isEachUse
+  unfolding ruleAt rules rule dutyByLabel citesNothing citationChecks leaves spends isAnObligation withLabel isAdding isEachUse
   follows-13 t =
       let h = and-true _ _ (t .fits) in
       moved refl refl (one (ltb-false _ _ (t .least)) (ltb-false _ _ (t .most)) (same-true _ _ (h .1)))
-      (account.duty-by-label (record { inside = inside _ _ (t .there); mark-is = refl; formula-is = refl }) (duty-is _ .0 (h .0))
+      (account.duty-by-label (record { inside = inside _ _ (t .cites .1 .0); mark-is = refl; formula-is = refl }) (duty-is _ .0 (h .0))
       (λ e o. not-both (and-intro (eq-eqb _ each-use e) o) (t .added)))
 
   follows-14 : Tests c 14 f a fs L → Step-follows c 14 f a fs L
@@ -255,6 +253,16 @@ pub record Small (c : Case) : Type 0 where
 not-absent : {a n : ℕ} → a < n → n ≤ absent → eqb a absent ≡ false
 not-absent {a} h k = ne-eqb a absent (λ e. omega arith)
 
+-- where the argument names nothing, or an entry of a label or an obligation that is there, checks 14 to 16 hold
+abbrev Four : (p q r s : Bool) → Type 0
+Four p q r s = (p ≡ false) × ((q ≡ false) × ((r ≡ false) × ((s ≡ false) × Unit {0})))
+
+none-cited : Four false false false false
+none-cited = (refl, (refl, (refl, (refl, tt))))
+
+entry-cited : {a n : ℕ} → a < n → n ≤ absent → Four (eqb a absent) (not (ltb a n)) false false
+entry-cited h k = (not-absent h k, (there h, (refl, (refl, tt))))
+
 -- what a rule says of its step: the rule's number, what it leaves open and spends, and that the tests find no fault
 pub record Followed (c : Case) (r : ℕ) (f : Formula) (a : ℕ) (fs : List Formula) (L M : Labels) (u : List ℕ) : Type 0 where
   pub number : r < 16
@@ -279,36 +287,36 @@ data-unique {f} {ds} d =
 pub followed :
     (c : Case) → Small c → {r a : ℕ} {f : Formula} {fs : List Formula} {L M : Labels} {u : List ℕ} →
     Follows c r f a fs L M u → Followed c r f a fs L M u
-unfolding ruleAt rules rule mustBeAbsent citesAbsent citesNothing citesHidden citesStruck isARow isAdding leaves spends isAnObligation isNone isHidden isStruck isEachUse withLabel withoutLabel first second firstPart secondPart source target sortOf suppose conditionRow seenRow say refine owner andIntro andLeft andRight impliesIntro impliesElim dutyIntro dutyByObligation dutyByLabel forAllIntro forAllElim isThat rowConclusion
+unfolding ruleAt rules rule mustBeAbsent citesAbsent citesNothing citesHidden citesStruck isARow citationChecks isAdding leaves spends isAnObligation isNone isHidden isStruck isEachUse withLabel withoutLabel first second firstPart secondPart source target sortOf suppose conditionRow seenRow say refine owner andIntro andLeft andRight impliesIntro impliesElim dutyIntro dutyByObligation dutyByLabel forAllIntro forAllElim isThat rowConclusion
 followed c small (account.suppose l) =
-    record { number = omega arith; opens = refl; spent = refl; tests = record { least = refl; most = refl; argument = refl; present = not-absent (l .inside) (small .labels); there = there (l .inside); seen = refl; unstruck = refl; added = rw (l .mark-is); fits = and-intro (eq-eqb _ 0 (l .mark-is)) (same-of _ _ (sym (l .formula-is))); fresh = refl } }
+    record { number = omega arith; opens = refl; spent = refl; tests = record { least = refl; most = refl; argument = refl; cites = entry-cited (l .inside) (small .labels); added = rw (l .mark-is); fits = and-intro (eq-eqb _ 0 (l .mark-is)) (same-of _ _ (sym (l .formula-is))); fresh = refl } }
 followed c small (account.condition-row {a} {f} h e) =
-    record { number = omega arith; opens = refl; spent = refl; tests = record { least = refl; most = refl; argument = refl; present = rw (not-absent h (small .conditions), e) (and-false (ltb a (c .conditions))); there = there h; seen = refl; unstruck = refl; added = refl; fits = rw e (same-refl f); fresh = refl } }
+    record { number = omega arith; opens = refl; spent = refl; tests = record { least = refl; most = refl; argument = refl; cites = (rw (not-absent h (small .conditions), e) (and-false (ltb a (c .conditions))), (there h, (refl, (refl, tt)))); added = refl; fits = rw e (same-refl f); fresh = refl } }
 followed c small (account.seen-row {f} h e k) =
-    record { number = omega arith; opens = refl; spent = refl; tests = record { least = refl; most = refl; argument = refl; present = not-absent h (small .rows); there = there h; seen = rw e; unstruck = rw e; added = refl; fits = rw (e, concluded k) (same-refl f); fresh = refl } }
+    record { number = omega arith; opens = refl; spent = refl; tests = record { least = refl; most = refl; argument = refl; cites = (not-absent h (small .rows), (there h, (rw e, (rw e, tt)))); added = refl; fits = rw (e, concluded k) (same-refl f); fresh = refl } }
 followed c small account.say =
-    record { number = omega arith; opens = refl; spent = refl; tests = record { least = refl; most = refl; argument = refl; present = refl; there = refl; seen = refl; unstruck = refl; added = refl; fits = same-refl _; fresh = refl } }
+    record { number = omega arith; opens = refl; spent = refl; tests = record { least = refl; most = refl; argument = refl; cites = none-cited; added = refl; fits = same-refl _; fresh = refl } }
 followed c small account.refine =
-    record { number = omega arith; opens = refl; spent = refl; tests = record { least = refl; most = refl; argument = refl; present = refl; there = refl; seen = refl; unstruck = refl; added = refl; fits = and-intro (and-intro (same-refl _) (same-refl _)) (same-refl _); fresh = refl } }
+    record { number = omega arith; opens = refl; spent = refl; tests = record { least = refl; most = refl; argument = refl; cites = none-cited; added = refl; fits = and-intro (and-intro (same-refl _) (same-refl _)) (same-refl _); fresh = refl } }
 followed c small (account.owner {b} {f} {ds} h k d v) =
-    record { number = omega arith; opens = refl; spent = refl; tests = record { least = le-ltb (length (map (owns (c .agent)) ds)) 1 (omega (arith, length-map ds (owns (c .agent)))); most = le-ltb 16 (length (map (owns (c .agent)) ds)) (omega (arith, length-map ds (owns (c .agent)))); argument = refl; present = refl; there = refl; seen = refl; unstruck = refl; added = refl; fits = and-intro (and-intro (same-refl _) (rw (data-variable-is (says (c .agent) f b) .1 v))) (same-all _ _ .1 (ap (map (owns (c .agent))) (data-unique d))); fresh = refl } }
+    record { number = omega arith; opens = refl; spent = refl; tests = record { least = le-ltb (length (map (owns (c .agent)) ds)) 1 (omega (arith, length-map ds (owns (c .agent)))); most = le-ltb 16 (length (map (owns (c .agent)) ds)) (omega (arith, length-map ds (owns (c .agent)))); argument = refl; cites = none-cited; added = refl; fits = and-intro (and-intro (same-refl _) (rw (data-variable-is (says (c .agent) f b) .1 v))) (same-all _ _ .1 (ap (map (owns (c .agent))) (data-unique d))); fresh = refl } }
 followed c small account.and-intro =
-    record { number = omega arith; opens = refl; spent = refl; tests = record { least = refl; most = refl; argument = refl; present = refl; there = refl; seen = refl; unstruck = refl; added = refl; fits = same-refl _; fresh = refl } }
+    record { number = omega arith; opens = refl; spent = refl; tests = record { least = refl; most = refl; argument = refl; cites = none-cited; added = refl; fits = same-refl _; fresh = refl } }
 followed c small account.and-left =
-    record { number = omega arith; opens = refl; spent = refl; tests = record { least = refl; most = refl; argument = refl; present = refl; there = refl; seen = refl; unstruck = refl; added = refl; fits = same-refl _; fresh = refl } }
+    record { number = omega arith; opens = refl; spent = refl; tests = record { least = refl; most = refl; argument = refl; cites = none-cited; added = refl; fits = same-refl _; fresh = refl } }
 followed c small account.and-right =
-    record { number = omega arith; opens = refl; spent = refl; tests = record { least = refl; most = refl; argument = refl; present = refl; there = refl; seen = refl; unstruck = refl; added = refl; fits = same-refl _; fresh = refl } }
+    record { number = omega arith; opens = refl; spent = refl; tests = record { least = refl; most = refl; argument = refl; cites = none-cited; added = refl; fits = same-refl _; fresh = refl } }
 followed c small (account.implies-intro {g} l) =
-    record { number = omega arith; opens = refl; spent = refl; tests = record { least = refl; most = refl; argument = refl; present = not-absent (l .inside) (small .labels); there = there (l .inside); seen = refl; unstruck = refl; added = refl; fits = and-intro (eq-eqb _ 0 (l .mark-is)) (same-of _ _ (ap (λ (h : Formula). implies h g) (sym (l .formula-is)))); fresh = refl } }
+    record { number = omega arith; opens = refl; spent = refl; tests = record { least = refl; most = refl; argument = refl; cites = entry-cited (l .inside) (small .labels); added = refl; fits = and-intro (eq-eqb _ 0 (l .mark-is)) (same-of _ _ (ap (λ (h : Formula). implies h g) (sym (l .formula-is)))); fresh = refl } }
 followed c small account.implies-elim =
-    record { number = omega arith; opens = refl; spent = refl; tests = record { least = refl; most = refl; argument = refl; present = refl; there = refl; seen = refl; unstruck = refl; added = refl; fits = same-refl _; fresh = refl } }
+    record { number = omega arith; opens = refl; spent = refl; tests = record { least = refl; most = refl; argument = refl; cites = none-cited; added = refl; fits = same-refl _; fresh = refl } }
 followed c small (account.duty-intro l d) =
-    record { number = omega arith; opens = refl; spent = refl; tests = record { least = refl; most = refl; argument = refl; present = not-absent (l .inside) (small .labels); there = there (l .inside); seen = refl; unstruck = refl; added = refl; fits = and-intro (duty-marked (l .mark-is) d) (after-same _ (l .mark-is) (l .formula-is)); fresh = refl } }
+    record { number = omega arith; opens = refl; spent = refl; tests = record { least = refl; most = refl; argument = refl; cites = entry-cited (l .inside) (small .labels); added = refl; fits = and-intro (duty-marked (l .mark-is) d) (after-same _ (l .mark-is) (l .formula-is)); fresh = refl } }
 followed c small (account.duty-by-obligation l d) =
-    record { number = omega arith; opens = refl; spent = refl; tests = record { least = refl; most = refl; argument = refl; present = not-absent (l .inside) (small .obligations); there = there (l .inside); seen = refl; unstruck = refl; added = refl; fits = and-intro (duty-marked (l .mark-is) d) (after-same _ (l .mark-is) (l .formula-is)); fresh = refl } }
+    record { number = omega arith; opens = refl; spent = refl; tests = record { least = refl; most = refl; argument = refl; cites = entry-cited (l .inside) (small .obligations); added = refl; fits = and-intro (duty-marked (l .mark-is) d) (after-same _ (l .mark-is) (l .formula-is)); fresh = refl } }
 followed c small (account.duty-by-label {a} {m} l d n) =
-    record { number = omega arith; opens = refl; spent = refl; tests = record { least = refl; most = refl; argument = refl; present = not-absent (l .inside) (small .labels); there = there (l .inside); seen = refl; unstruck = refl; added = never-true _ (λ e. let h = and-true _ _ e in n (sym (l .mark-is) ∙ eqb-true (c .label a .mark) each-use (h .0)) (h .1)); fits = and-intro (duty-marked (l .mark-is) d) (after-same _ (l .mark-is) (l .formula-is)); fresh = refl } }
+    record { number = omega arith; opens = refl; spent = refl; tests = record { least = refl; most = refl; argument = refl; cites = entry-cited (l .inside) (small .labels); added = never-true _ (λ e. let h = and-true _ _ e in n (sym (l .mark-is) ∙ eqb-true (c .label a .mark) each-use (h .0)) (h .1)); fits = and-intro (duty-marked (l .mark-is) d) (after-same _ (l .mark-is) (l .formula-is)); fresh = refl } }
 followed c small (account.for-all-intro {a} {σ} {f} {L} p n o) =
-    record { number = omega arith; opens = refl; spent = refl; tests = record { least = refl; most = refl; argument = refl; present = class-present a p (λ e. let z : _≡_ {A = ℕ} 0 1 = cc in omega arith); there = refl; seen = refl; unstruck = refl; added = refl; fits = and-intro (and-intro (same-refl _) (parameter-is σ a .1 p)) (same-refl _); fresh = rw (mentions-not a (for-all σ f) .1 n) (any-none _ (c .labels) 0 (λ l from to. never-true _ (λ e. let h = and-true (L l) _ e in o l (omega arith) (h .0) (mentions-is a _ .0 (h .1))))) } }
+    record { number = omega arith; opens = refl; spent = refl; tests = record { least = refl; most = refl; argument = refl; cites = (class-present a p (λ e. let z : _≡_ {A = ℕ} 0 1 = cc in omega arith), (refl, (refl, (refl, tt)))); added = refl; fits = and-intro (and-intro (same-refl _) (parameter-is σ a .1 p)) (same-refl _); fresh = rw (mentions-not a (for-all σ f) .1 n) (any-none _ (c .labels) 0 (λ l from to. never-true _ (λ e. let h = and-true (L l) _ e in o l (omega arith) (h .0) (mentions-is a _ .0 (h .1))))) } }
 followed c small (account.for-all-elim {a} {σ} i) =
-    record { number = omega arith; opens = refl; spent = refl; tests = record { least = refl; most = refl; argument = refl; present = ⊎-elim (λ p. class-present a p (λ e. let z : _≡_ {A = ℕ} 0 1 = cc in omega arith)) (λ p. class-present a p (λ e. let z : _≡_ {A = ℕ} 0 1 = cc in omega arith)) i; there = refl; seen = refl; unstruck = refl; added = refl; fits = and-intro (and-intro (same-refl _) (instance-is σ a .1 i)) (same-refl _); fresh = refl } }
+    record { number = omega arith; opens = refl; spent = refl; tests = record { least = refl; most = refl; argument = refl; cites = (⊎-elim (λ p. class-present a p (λ e. let z : _≡_ {A = ℕ} 0 1 = cc in omega arith)) (λ p. class-present a p (λ e. let z : _≡_ {A = ℕ} 0 1 = cc in omega arith)) i, (refl, (refl, (refl, tt)))); added = refl; fits = and-intro (and-intro (same-refl _) (instance-is σ a .1 i)) (same-refl _); fresh = refl } }

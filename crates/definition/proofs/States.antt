@@ -1,16 +1,15 @@
--- The steps as a run over states: the run accepts just if each step's tests find no fault in the state that the steps before it leave.
+-- The steps as a run over states: the run accepts just if no check of a step fails in the state that the steps before it leave.
 -- By induction on the steps left. Assumes nothing.
 use Prim.Native.Nat.{ℕ, zero, suc, _+_, _≤_, _<_}
 use mathlib.Core.Path.{_≡_, sym, ap, _∙_}
-use mathlib.Core.Bool.{false}
 use mathlib.Core.Logic.{⊎-elim}
 use native.Mathlib.Nat.{eq-or-lt-of-le}
 use native.Mathlib.Numerals.{add-one}
 use native.Mathlib.Omega.{arith}
-use Rattle.definition.proofs.CheckLaws.{then-accepts, bind-accepts, all-hold, hold-all, by-number}
+use Rattle.definition.proofs.CheckLaws.{then-accepts, bind-accepts, all-hold, hold-all}
 use Rattle.definition.specs.04-Checks.{Checked, accepts, _>>_, _>>=_, AllHold, inOrder}
 use Rattle.definition.specs.17-Case.{Case}
-use Rattle.definition.specs.22-Steps.{State, startState, ruleOf, premisesOf, misshapen, badPremises, citesAbsent, citesNothing, citesHidden, citesStruck, usedTwice, misfit, notFresh, next, citationChecks, fitChecks, shapeChecks, useChecks, stepChecks, stepAt, runFrom}
+use Rattle.definition.specs.22-Steps.{State, startState, next, stepChecks, stepAt, runFrom}
 
 -- the state that the first k steps leave, whatever their tests say
 unfoldable pub stateAt : Case → ℕ → State
@@ -21,51 +20,22 @@ pub state-next : (c : Case) (k : ℕ) → stateAt c (k + 1) ≡ next c k (stateA
 unfolding stateAt
 state-next c k = rw (add-one k)
 
--- no test of step k finds a fault in the state s
-pub record Fine (c : Case) (k : ℕ) (s : State) : Type 0 where
-  pub shape : misshapen c k ≡ false
-  pub premises : badPremises (s .used) k (premisesOf c k) ≡ false
-  pub present : citesAbsent c (ruleOf c k .names) (c .step k .argument) ≡ false
-  pub there : citesNothing c (ruleOf c k .names) (c .step k .argument) ≡ false
-  pub seen : citesHidden c (ruleOf c k .names) (c .step k .argument) ≡ false
-  pub unstruck : citesStruck c (ruleOf c k .names) (c .step k .argument) ≡ false
-  pub split : usedTwice c s (ruleOf c k) (c .step k .argument) (premisesOf c k) ≡ false
-  pub fits : misfit c k ≡ false
-  pub fresh : notFresh c s k ≡ false
+-- no check of step k fails in the state s
+abbrev pub Fine : Case → ℕ → State → Type 0
+Fine c k s = AllHold (stepChecks c k s)
 
 pub accepted : {A : Type 0} {x y : A} → accepts x ≡ accepts y → x ≡ y
 accepted e = cc
-
--- that is, every check of the step holds
-hold-fine : (c : Case) (k : ℕ) (s : State) → AllHold (stepChecks c k s) → Fine c k s
-unfolding stepChecks shapeChecks citationChecks useChecks fitChecks
-hold-fine c k s h =
-    record {
-      shape = by-number 12 (stepChecks c k s) h .0;
-      premises = by-number 13 (stepChecks c k s) h .0;
-      present = by-number 14 (stepChecks c k s) h .0;
-      there = by-number 15 (stepChecks c k s) h .0;
-      seen = by-number 16 (stepChecks c k s) h .0;
-      unstruck = by-number 14 (stepChecks c k s) h .1 .0;
-      split = by-number 17 (stepChecks c k s) h .0;
-      fits = by-number 18 (stepChecks c k s) h .0;
-      fresh = by-number 19 (stepChecks c k s) h .0;
-    }
-
-fine-hold : (c : Case) (k : ℕ) (s : State) → Fine c k s → AllHold (stepChecks c k s)
-unfolding stepChecks shapeChecks citationChecks useChecks fitChecks
-fine-hold c k s f =
-    (f .shape, (f .premises, (f .present, (f .there, (f .seen, (f .unstruck, (f .split, (f .fits, (f .fresh, tt)))))))))
 
 pub step-fine : (c : Case) (k : ℕ) (s t : State) → stepAt c k s ≡ accepts t → (t ≡ next c k s) × Fine c k s
 unfolding stepAt
 step-fine c k s t e =
     let a = then-accepts (inOrder (stepChecks c k s)) (accepts (next c k s)) t e in
-    (sym (accepted (a .1)), hold-fine c k s (all-hold (stepChecks c k s) (a .0 .1)))
+    (sym (accepted (a .1)), all-hold (stepChecks c k s) (a .0 .1))
 
 pub fine-step : (c : Case) (k : ℕ) (s : State) → Fine c k s → stepAt c k s ≡ accepts (next c k s)
 unfolding stepAt _>>_
-fine-step c k s f = rw (hold-all (stepChecks c k s) (fine-hold c k s f))
+fine-step c k s f = rw (hold-all (stepChecks c k s) f)
 
 -- the run from step i on, of which `left` are left
 pub run-fine :

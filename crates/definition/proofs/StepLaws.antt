@@ -9,6 +9,7 @@ use lib.Dec.{eqb, ltb}
 use borrow.Author.Tests.{ltb-false, le-ltb, eqb-true, eq-eqb, not-false}
 use Rattle.definition.specs.01-Words.{absent}
 use Rattle.definition.specs.02-Ranges.{listed}
+use Rattle.definition.proofs.CheckLaws.{by-number, both-hold, hold-both}
 use Rattle.definition.proofs.Tests.{and-true, and-intro, or-false, not-both, never-true}
 use Rattle.definition.specs.13-Formulas.{Formula, each-use, isPolicy, closed}
 use Rattle.definition.specs.41-Occurrences.{Policy, Closed}
@@ -16,7 +17,7 @@ use Rattle.definition.proofs.OccurrenceLaws.{policy-is, closed-is}
 use Rattle.definition.specs.15-Records.{badSpan}
 use Rattle.definition.specs.17-Case.{Case}
 use Rattle.definition.proofs.Spans as laws
-use Rattle.definition.specs.22-Steps.{State, Labels, ruleOf, premisesOf, mustBeAbsent, misshapen, isAnObligation, joined, isEachUse, isAdding, share, usedTwice, misfit, notFresh}
+use Rattle.definition.specs.22-Steps.{State, Labels, ruleOf, premisesOf, mustBeAbsent, misshapen, isAnObligation, joined, isEachUse, isAdding, share, usedTwice, misfit, notFresh, citationChecks, fitChecks, shapeChecks, useChecks, stepChecks}
 use Rattle.definition.specs.42-Account.{SpansAdjoin}
 use Rattle.definition.proofs.States.{Fine}
 use Rattle.definition.proofs.PremiseLaws.{Usable, premises-usable, usable-premises, listed-length}
@@ -49,6 +50,10 @@ premises-length c k =
     length-map (listed (c .premise) (c .step k .len) (c .step k .from)) (λ p. c .step p .formula)
     ∙ listed-length (c .premise) (c .step k .len) (c .step k .from)
 
+pub fine-shaped : (c : Case) (k : ℕ) (s : State) → Fine c k s → misshapen c k ≡ false
+unfolding stepChecks shapeChecks
+fine-shaped c k s f = f .0
+
 pub record Parts (c : Case) (k : ℕ) (s : State) : Type 0 where
   pub local : Local c (s .opens) k
   pub usable : Usable (s .used) k (premisesOf c k)
@@ -56,15 +61,16 @@ pub record Parts (c : Case) (k : ℕ) (s : State) : Type 0 where
   pub once : SpentOnce c s k
 
 pub fine-parts : (c : Case) (k : ℕ) (s : State) → Fine c k s → Parts c k s
-unfolding misshapen usedTwice misfit notFresh ruleOf premiseFormulas spanFault
+unfolding stepChecks shapeChecks citationChecks useChecks fitChecks misshapen usedTwice misfit notFresh ruleOf premiseFormulas spanFault
 fine-parts c k s f =
-    let f6 = or-false _ (mustBeAbsent (ruleOf c k .names) && not (eqb (c .step k .argument) absent)) (f .shape) in
+    let checks = stepChecks c k s in
+    let f6 = or-false _ (mustBeAbsent (ruleOf c k .names) && not (eqb (c .step k .argument) absent)) (by-number 12 checks f .0) in
     let f5 = or-false _ (ltb (ruleOf c k .most) (c .step k .len)) (f6 .0) in
     let f4 = or-false _ (ltb (c .step k .len) (ruleOf c k .least)) (f5 .0) in
     let f3 = or-false _ (spanFault c k) (f4 .0) in
     let f2 = or-false (ltb 15 (c .step k .rule)) (not (isPolicy (c .step k .formula) && closed (c .step k .formula))) (f3 .0) in
     let pc = and-true (isPolicy (c .step k .formula)) (closed (c .step k .formula)) (not-false _ (f2 .1)) in
-    let u3 = or-false _ (isAdding (ruleOf c k .effect) && isEachUse c (c .step k .argument) && joined (s .opens) (premisesOf c k) (c .step k .argument)) (f .split) in
+    let u3 = or-false _ (isAdding (ruleOf c k .effect) && isEachUse c (c .step k .argument) && joined (s .opens) (premisesOf c k) (c .step k .argument)) (by-number 17 checks f .0) in
     let u2 = or-false (isAnObligation (ruleOf c k .names) && eqb (c .obligation (c .step k .argument) .mark) each-use && s .discharged (c .step k .argument)) (share c (s .opens) (premisesOf c k)) (u3 .0) in
     record {
       local = record {
@@ -75,23 +81,20 @@ fine-parts c k s f =
           least = rw (premises-length c k) (f4 .1);
           most = rw (premises-length c k) (f5 .1);
           argument = f6 .1;
-          present = f .present;
-          there = f .there;
-          seen = f .seen;
-          unstruck = f .unstruck;
+          cites = both-hold (shapeChecks c k s) (useChecks c k s) f .0 .1 .1;
           added = u3 .1;
-          fits = not-false _ (f .fits);
-          fresh = f .fresh;
+          fits = not-false _ (by-number 18 checks f .0);
+          fresh = by-number 19 checks f .0;
         };
         split = u2 .1;
       };
-      usable = premises-usable (s .used) k (premisesOf c k) (f .premises);
+      usable = premises-usable (s .used) k (premisesOf c k) (by-number 13 checks f .0);
       span = f3 .1;
       once = λ n m d. not-both (and-intro (and-intro n (eq-eqb _ each-use m)) d) (u2 .0);
     }
 
 pub parts-fine : (c : Case) (k : ℕ) (s : State) → Parts c k s → Fine c k s
-unfolding misshapen usedTwice misfit notFresh ruleOf premiseFormulas spanFault
+unfolding stepChecks shapeChecks citationChecks useChecks fitChecks misshapen usedTwice misfit notFresh ruleOf premiseFormulas spanFault
 parts-fine c k s p =
     let l = p .local in
     let t = l .tests in
@@ -99,17 +102,12 @@ parts-fine c k s p =
     let most : ltb (ruleOf c k .most) (c .step k .len) ≡ false = rw (premises-length c k) at (t .most) in
     let spent : isAnObligation (ruleOf c k .names) && eqb (c .obligation (c .step k .argument) .mark) each-use && s .discharged (c .step k .argument) ≡ false =
     never-true _ (λ e. let a = and-true _ (s .discharged (c .step k .argument)) e in let b = and-true _ (eqb (c .obligation (c .step k .argument) .mark) each-use) (a .0) in p .once (b .0) (eqb-true _ each-use (b .1)) (a .1)) in
-    record {
-      shape = rw (le-ltb 15 (c .step k .rule) (omega (arith, l .number)), policy-is _ .1 (l .policy), closed-is _ .1 (l .closed), p .span, least, most) (t .argument);
-      premises = usable-premises (s .used) k (premisesOf c k) (p .usable);
-      present = t .present;
-      there = t .there;
-      seen = t .seen;
-      unstruck = t .unstruck;
-      split = rw (spent, l .split) (t .added);
-      fits = rw (t .fits);
-      fresh = t .fresh;
-    }
+    let shape : misshapen c k ≡ false =
+    rw (le-ltb 15 (c .step k .rule) (omega (arith, l .number)), policy-is _ .1 (l .policy), closed-is _ .1 (l .closed), p .span, least, most) (t .argument) in
+    let taken = usable-premises (s .used) k (premisesOf c k) (p .usable) in
+    hold-both (shapeChecks c k s) (useChecks c k s)
+    (shape, (taken, t .cites))
+    (rw (spent, l .split) (t .added), (rw (t .fits), (t .fresh, tt)))
 
 -- the spans of all steps adjoin and cover just if none is at fault
 pub spans-adjoin : (c : Case) → ((k : ℕ) → k < c .steps → spanFault c k ≡ false) → SpansAdjoin c

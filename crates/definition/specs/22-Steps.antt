@@ -198,14 +198,15 @@ fitChecks c k = single 18 k (misfit c k) ∷ []
 -- Checks 12 to 16 of step k: it is well made, and all that it rests on is there.
 unfoldable pub shapeChecks : Case → ℕ → State → List Check
 shapeChecks c k s =
-    (single 12 k (misshapen c k) ∷ single 13 k (badPremises (s .used) k (premisesOf c k)) ∷ [])
-    ++ citationChecks c (ruleOf c k .names) (c .step k .argument) k
+    single 12 k (misshapen c k)
+    ∷ single 13 k (badPremises (s .used) k (premisesOf c k))
+    ∷ citationChecks c (ruleOf c k .names) (c .step k .argument) k
 
 -- Checks 17 to 19 of step k: it uses that as its rule allows.
 unfoldable pub useChecks : Case → ℕ → State → List Check
 useChecks c k s =
-    (single 17 k (usedTwice c s (ruleOf c k) (c .step k .argument) (premisesOf c k)) ∷ [])
-    ++ fitChecks c k
+    single 17 k (usedTwice c s (ruleOf c k) (c .step k .argument) (premisesOf c k))
+    ∷ fitChecks c k
     ++ (single 19 k (notFresh c s k) ∷ [])
 
 -- Step k "through 12 to 19 by number".
