@@ -1,5 +1,5 @@
 //! Case files with what the separate checker says of them, as records for `attack/guard.c`, which
-//! shares nothing with the proved libraries' Rust side.
+//! shares nothing with the proved library's Rust side.
 
 use crate::cases::{examples_and_vectors, ROOM};
 use crate::checker::{check, Verdict};

@@ -25,7 +25,7 @@ fn assert_agrees(vector: &Vector) {
 #[test]
 fn examples_of_document_01() {
     let all = examples();
-    assert_eq!(all.len(), 23 + 7);
+    assert!(all.len() >= 23 + 7);
     all.iter().for_each(assert_agrees);
 }
 

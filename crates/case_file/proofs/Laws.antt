@@ -1,4 +1,4 @@
--- What callers of this library may cite, and they cite this file alone: what an admitted file has, and that the table says what the agent sees of each row. Assumes nothing.
+-- What callers of this library may cite, beside LentCaseLaws: what an admitted file has, and that the table says what the agent sees of each row. Assumes nothing.
 use Prim.Native.Nat.{ℕ, _<_}
 use mathlib.Core.Path.{_≡_, refl, sym, ap, _∙_}
 use mathlib.Core.List.{List}

@@ -1,4 +1,4 @@
--- The hypotheses of demand 2 can be met: the desk's passes have an account. Those of demand 3 are met in specs/Hidden. Assumes nothing.
+-- The hypotheses of demand 2 can be met: the desk's passes have an account. Those of demand 3 are met in specs/55-HiddenRows. Assumes nothing.
 use mathlib.Core.Path.{refl}
 use mathlib.Core.List.{[], _∷_}
 use native.Mathlib.Omega.{arith}

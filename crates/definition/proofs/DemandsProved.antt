@@ -1,4 +1,4 @@
--- The three demands, proved of the definition. Each is stated in specs/Demands. Assumes nothing.
+-- The three demands, proved of the definition. Each is stated in specs/44-Demands. Assumes nothing.
 use Rattle.definition.proofs.CitedLists as cited
 use Rattle.definition.proofs.OneNumber.{one-number}
 use Rattle.definition.proofs.PassesExactly as account
