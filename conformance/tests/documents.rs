@@ -39,11 +39,9 @@ fn grant_has_106_bytes() {
 #[test]
 fn vectors_agree() {
     let files = vector_files();
-    assert!(!files.is_empty());
-    for (name, vectors) in files {
-        assert!(vectors.len() > 100, "{name}");
-        vectors.iter().for_each(assert_agrees);
-    }
+    let all: Vec<Vector> = files.into_iter().flat_map(|(_, vectors)| vectors).collect();
+    assert!(all.len() >= 319, "{}", all.len());
+    all.iter().for_each(assert_agrees);
 }
 
 #[test]

@@ -6,9 +6,6 @@ mod record_checks;
 
 pub use admission::admit;
 pub use admission::admit_into;
-pub use formula_numbers::closed_action;
 pub use formula_numbers::closed_policy;
-pub use formula_numbers::ground_action;
-pub use formula_numbers::ground_predicate;
 pub use log_checks::View;
 pub use log_checks::view_at;

@@ -2,7 +2,7 @@
 use Prim.Native.Nat.{ℕ, _+_, _≤_}
 use mathlib.Core.Path.{_≡_, refl, ap}
 use mathlib.Core.Bool.{true, false, false≢true}
-use mathlib.Core.Logic.{_↔_, ⊎-map, Iff·rfl}
+use mathlib.Core.Logic.{_↔_, ⊎-map}
 use native.Mathlib.Omega.{arith}
 use borrow.Author.Tests.{leb-true, le-leb, eqb-true, eq-eqb}
 use Rattle.definition.proofs.Tests.{or-is, or-is₃, not-is, refutes}
@@ -90,9 +90,6 @@ module _ (w : Sought) (P : ℕ → ℕ → Type 0) (is : (d t : ℕ) → (isSoug
   has-is d (creates x y) = or-is (is d x) (is d y)
   has-is d (user-action c x y z) = or-is₃ (is d x) (is d y) (is d z)
   has-is d no-formula = (false≢true, λ x. absurd x)
-
-pub has-true : (w : Sought) (d : ℕ) (f : Formula) → (has w d f ≡ true) ↔ Somewhere (λ e t. isSought w e t ≡ true) d f
-has-true w = has-is w (λ d t. isSought w d t ≡ true) (λ d t. Iff·rfl)
 
 pub mentions-is : (t : ℕ) (f : Formula) → (has (this-term t) 0 f ≡ true) ↔ Mentions t f
 unfolding isSought

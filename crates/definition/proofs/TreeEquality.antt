@@ -1,9 +1,8 @@
 -- `same` says whether two formulas are equal, and so rules that compare formulas may speak of equality. Assumes nothing.
 use mathlib.Core.Path.{_≡_, refl}
-use mathlib.Core.Bool.{true, false, decide-iff}
+use mathlib.Core.Bool.{true, decide-iff}
 use mathlib.Core.Logic.{_↔_}
 use native.Mathlib.Decide.{ℕ-discrete}
-use Rattle.definition.proofs.Tests.{not-both}
 use Rattle.definition.specs.12-Terms.{Sort-discrete}
 use Rattle.definition.specs.13-Formulas.{Formula, Formula-discrete, same}
 
@@ -19,6 +18,3 @@ same-of f g = same-is f g .1
 
 pub same-refl : (f : Formula) → same f f ≡ true
 same-refl f = same-of f f refl
-
-pub same-false : (f g : Formula) → same f g ≡ false → f ≡ g → ⊥
-same-false f g e q = not-both (same-of f g q) e

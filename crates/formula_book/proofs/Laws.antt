@@ -13,13 +13,12 @@ use Rattle.definition.specs.04-Checks.{single, AllHold}
 use Rattle.definition.specs.11-Layout.{formula-part, rowBytes, mostRecords}
 use Rattle.definition.proofs.Tests.{or-false, not-both, one-answer}
 use Rattle.definition.specs.12-Terms.{agents, data-objects, object, parameter, variable, absent-term, no-term, classOf, isObject, sameSort}
-use Rattle.definition.specs.13-Formulas.{Formula, no-formula, same, isPolicy, isAction, isPredicate, nodes}
+use Rattle.definition.specs.13-Formulas.{Formula, no-formula, same, isPolicy, isAction, isPredicate}
 use Rattle.definition.specs.14-Book.{Row, rowAt, bookRows, treeIn, treeOf, trees, book, badFormula, sameRow, repeatsLower, isMisshapen, bookChecks, bookAdmission}
 use Rattle.formula_book.specs.GoodRows.{GoodRow}
 use Rattle.formula_book.specs.AdmittedBooks.{AdmittedBook}
-use Rattle.formula_walks.proofs.InstanceLaws.{shape-tree}
 use Rattle.definition.proofs.OneNumber.{Has, fields, fieldsOf, one-number}
-use Rattle.definition.proofs.Trees.{Shape, trees-length, row-shape, row-small}
+use Rattle.definition.proofs.Trees.{Shape, trees-length, row-shape}
 use Rattle.definition.proofs.TreeEquality.{same-is}
 use Rattle.formula_rows.proofs.RowKinds.{shape-policy, shape-action, shape-predicate}
 use Rattle.formula_book.proofs.RowComparison.{same-as-row}
@@ -82,13 +81,6 @@ module _ (s : List ℕ) (row : ℕ) (g : GoodRow s row) where
   -- the fields from the tree
   pub tree-row : Has (book s) row (rowAt s row) (fieldsOf (treeIn (book s) row))
   tree-row = fields row-is
-
-  -- the tree from the fields
-  pub row-tree : treeIn (book s) row ≡ treeOf (book s) (rowAt s row)
-  row-tree = shape-tree row-is
-
-  pub row-nodes : nodes (treeIn (book s) row) ≤ 64
-  row-nodes = row-small s row (g .good row (omega arith))
 
 -- What a row's tree is, from its kind.
 module _ (s : List ℕ) (row : ℕ) (g : GoodRow s row) where

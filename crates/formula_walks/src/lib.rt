@@ -4,9 +4,7 @@ mod data_walk;
 mod instances;
 mod occurs;
 
-pub use data_walk::action_data;
 pub use data_walk::policy_data;
-pub use instances::action_instance;
 pub use instances::policy_instance;
 pub use occurs::action_has;
 pub use occurs::policy_has;

@@ -83,9 +83,6 @@ module _ {s b : List ℕ} {k : ℕ} (lent : Lent s b) (st : ShapedStep s k) {t :
   pub most-premises : t .len ≤ ruleAt (t .rule) .most
   most-premises = rw (is .rule, is .len) (shape .most)
 
-  pub own-policy : isPolicy (treeIn (trees b) (t .formula)) ≡ true
-  own-policy = ap isPolicy (named lent (is .formula)) ∙ shape .policy
-
   pub own-numbered : Numbered b (t .formula)
   own-numbered = rw (is .formula) (numbered lent (formula-inside k lent (st .shaped)))
 

@@ -54,9 +54,3 @@ any-as p q m n le same none =
           any-some p m 0 (r .0) (omega arith) (omega arith) (same (r .0) (omega arith) ∙ r .3),
     )
     (λ e. e, λ e. e)
-
-pub any-same : (p q : ℕ → Bool) (n : ℕ) → ((l : ℕ) → l < n → p l ≡ q l) → any p n 0 ≡ any q n 0
-any-same p q n same = any-as p q n n (omega arith) same (λ l up lt. absurd (omega arith))
-
-pub any-fewer : (p : ℕ → Bool) (m n : ℕ) → n ≤ m → ((l : ℕ) → n ≤ l → p l ≡ false) → any p m 0 ≡ any p n 0
-any-fewer p m n le none = any-as p p m n le (λ l lt. refl) (λ l up lt. none l up)

@@ -104,9 +104,6 @@ pub labels-past : (w n l : ℕ) → n < 2 ^ w → w ≤ l → labelsOf n l ≡ f
 unfolding labelsOf
 labels-past w n l h g = let p = pow-mono {i = w} {j = l} g in rw (div-eq-of-lt {n = n} {m = 2 ^ l} (omega arith))
 
-pub labels-low : (n l : ℕ) → n < 2 ^ 32 → 32 ≤ l → labelsOf n l ≡ false
-labels-low = labels-past 32
-
 half-label : (n l : ℕ) → labelsOf (n / 2) l ≡ labelsOf n (1 + l)
 unfolding labelsOf
 half-label n l = ap (λ (x : ℕ). eqb (x % 2) 1) (shr-shr n 1 l)

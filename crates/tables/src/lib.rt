@@ -5,5 +5,4 @@ mod open_set;
 pub use flags::count_marked;
 pub use flags::first_unmarked;
 pub use flags::write_lists;
-pub use flags::write_marked;
 pub use open_set::OpenSet;

@@ -1,13 +1,12 @@
 -- A loop that looks for the first of the numbers below n at which a test p holds: what it has passed, and what it finds. Assumes nothing.
 use Prim.Native.Nat.{ℕ, _+_, _≤_, _<_}
-use mathlib.Core.Path.{_≡_, sym, _∙_}
+use mathlib.Core.Path.{_≡_, sym}
 use mathlib.Core.Bool.{Bool, true, false}
 use mathlib.Core.Logic.{⊎-elim}
 use native.Mathlib.Nat.{eq-or-lt-of-le}
 use native.Mathlib.Omega.{arith}
-use lib.Dec.{ltb}
 use Rattle.definition.specs.02-Ranges.{lowest}
-use Rattle.definition.proofs.RangeLaws.{any-false, lowest-is, lowest-none, lowest-any}
+use Rattle.definition.proofs.RangeLaws.{lowest-is, lowest-none}
 
 -- The test holds at none of the numbers below k.
 pub record Passed (p : ℕ → Bool) (n k : ℕ) : Type 0 where
@@ -32,9 +31,3 @@ module _ (p : ℕ → Bool) (n : ℕ) where
   -- the loop has run out
   pub passed-all : {k : ℕ} → Passed p n k → n ≤ k → n ≡ lowest p n 0
   passed-all {k} h le = omega (arith, lowest-none p n 0 (λ j from below. h .none j (omega arith)))
-
-  -- where the lowest is beyond the numbers, the test holds at none of them
-  pub passed-beyond : ltb (lowest p n 0) n ≡ false → (k : ℕ) → k < n → p k ≡ false
-  passed-beyond e k below =
-      let all : 0 + n ≡ n = omega arith in
-      any-false p n 0 (sym (rw all at (lowest-any p n 0)) ∙ e) k (omega arith) (omega arith)
