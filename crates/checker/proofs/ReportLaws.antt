@@ -1,6 +1,6 @@
 -- What follows the admission, by where the code stops: the verdict and the room are those that the definition reports. Assumes nothing.
 use Prim.Native.Nat.{ℕ, _+_, _≤_, _<_}
-use mathlib.Core.Path.{_≡_, refl, sym, _∙_}
+use mathlib.Core.Path.{_≡_, refl, sym, ap, _∙_}
 use mathlib.Core.Option.{none, some}
 use mathlib.Core.Bool.{false}
 use mathlib.Core.List.{List, [], _∷_, _++_}
@@ -8,17 +8,17 @@ use native.Mathlib.Omega.{arith}
 use lib.ListN.{length, drop}
 use lib.Dec.{ltb}
 use borrow.Author.Tests.{lt-ltb, le-ltb}
-use Rattle.definition.proofs.CheckLaws.{stops, goes-on, hold-all}
+use Rattle.definition.proofs.CheckLaws.{stops, goes-on, all-hold, hold-all, skip-before, stop-before}
 use Rattle.definition.proofs.PromiseLaws as promises
-use Rattle.definition.proofs.States.{stateAt, run-fine}
+use Rattle.definition.proofs.States.{steps-fine}
 use Rattle.definition.proofs.StepLaws.{fine-shaped}
-use Rattle.definition.specs.04-Checks.{Checked, accepts, refuses, _>>_, _>>=_, single, inOrder}
+use Rattle.definition.specs.04-Checks.{Checked, accepts, refuses, _>>_, single, inOrder}
 use Rattle.definition.specs.11-Layout.{formula-part, step-part, part, count}
 use Rattle.definition.specs.13-Formulas.{Formula}
 use Rattle.definition.specs.17-Case.{Case, caseOf}
-use Rattle.definition.specs.18-Admission.{admission}
-use Rattle.definition.specs.22-Steps.{State, startState, runFrom}
-use Rattle.definition.specs.31-Outcome.{Finding, owes, isOwed, hasSteps, noProof, needlessProof, needed, shortRoom, dischargedList, citedList, owingChecks, endChecks, concluding, proof, ending, justifying, finding, report, outcome}
+use Rattle.definition.specs.18-Admission.{admissionChecks, admission}
+use Rattle.definition.specs.22-Steps.{State, startState, checksOfSteps, stateAt}
+use Rattle.definition.specs.31-Outcome.{Finding, owes, isOwed, hasSteps, noProof, needlessProof, needed, shortRoom, dischargedList, citedList, owingChecks, endChecks, finalState, proofChecks, checksIfOwed, caseChecks, allChecks, foundIfOwed, found, finding, report, outcome}
 use Rattle.definition.specs.45-Promises.{Answered}
 use Rattle.case_file.proofs.Laws.{table-view, all-rows-entered}
 use Rattle.case_file.specs.AdmissionRuns.{beforeLog}
@@ -26,8 +26,10 @@ use Rattle.case_file.specs.Seen.{SeenUpTo, rowsAfter}
 use Rattle.rules.proofs.ShapedStepLaws.{formula-inside}
 use Rattle.case_file.specs.LentCase.{Lent, CaseLent}
 use Rattle.case_parts.specs.ShapedSteps.{EarlierNumbered}
+use Rattle.checker.proofs.StepRun.{all-accepted}
 use Rattle.checker.specs.Meanings.{verdictMeant}
-use Rattle.checker.specs.Reports.{listing, Reported}
+use Rattle.checker.specs.Reports.{listing, concluding, proof, justifying, Reported}
+use Rattle.checker.specs.StepRuns.{afterRun}
 use Rattle.checker.specs.declared.verdict.Verdict.{Verdict}
 use Rattle.checker.specs.declared.verdict.Verdict.the-variants.{Passed, NoneOwed, Refused}
 
@@ -70,43 +72,51 @@ module _ (c : Case) (s : State) (room : List ℕ) where
   end-listing r after e = reported-as (rw e)
 
 -- The steps, and what follows them.
-pub proof-refused : (c : Case) (room n k : ℕ) → runFrom c (c .steps) 0 startState ≡ refuses n k → proof c room ≡ refuses n k
-unfolding proof _>>=_
-proof-refused c room n k e = rw e
+pub proof-refused : (c : Case) (room n p : ℕ) → refuses n p ≡ inOrder (checksOfSteps c (c .steps) 0 startState) → proof c room ≡ refuses n p
+unfolding proof proofChecks _>>_
+proof-refused c room n p e = rw (← stop-before (checksOfSteps c (c .steps) 0 startState) (endChecks c (finalState c) room) e)
 
-pub proof-run : (c : Case) (room : ℕ) (s : State) → runFrom c (c .steps) 0 startState ≡ accepts s → proof c room ≡ concluding c s room
-unfolding proof _>>=_
-proof-run c room s e = rw e
+pub proof-run :
+    (c : Case) (room : ℕ) (s : State) → accepts tt ≡ inOrder (checksOfSteps c (c .steps) 0 startState) → s ≡ afterRun c (c .steps) 0 startState →
+    proof c room ≡ concluding c s room
+unfolding proof proofChecks concluding finalState stateAt
+proof-run c room s e is =
+    let h = all-hold (checksOfSteps c (c .steps) 0 startState) (sym e) in
+    let all : 0 + c .steps ≡ c .steps = omega arith in
+    let last : s ≡ stateAt c (c .steps) = is ∙ all-accepted c (c .steps) 0 h ∙ ap (stateAt c) all in
+    rw (last, skip-before (checksOfSteps c (c .steps) 0 startState) (endChecks c (stateAt c (c .steps)) room) h)
 
 -- Where all steps have passed, each has a formula of the book.
-pub all-numbered : {s b : List ℕ} {t : State} → Lent s b → runFrom (caseOf s) (caseOf s .steps) 0 startState ≡ accepts t → EarlierNumbered s (count s step-part)
+pub all-numbered : {s b : List ℕ} → Lent s b → accepts tt ≡ inOrder (checksOfSteps (caseOf s) (caseOf s .steps) 0 startState) → EarlierNumbered s (count s step-part)
 unfolding stateAt caseOf
-all-numbered {s} {b} {t} lent e j lt = formula-inside j lent (fine-shaped (caseOf s) j _ (run-fine (caseOf s) (caseOf s .steps) 0 t e .1 j (omega arith) (omega arith)))
+all-numbered {s} {b} lent e j lt =
+    let c = caseOf s in
+    formula-inside j lent (fine-shaped c j _ (steps-fine c (c .steps) 0 (all-hold (checksOfSteps c (c .steps) 0 startState) (sym e)) j (omega arith) (omega arith)))
 
 -- Checks 10 and 11.
 module _ (c : Case) (room : List ℕ) where
   module _ (e : owes c ≡ none) where
     pub needless-steps : 0 < c .steps → Reported (justifying c (length room)) room (Refused 11 0) room
-    unfolding justifying owingChecks noProof needlessProof isOwed hasSteps _>>_
+    unfolding justifying caseChecks owingChecks noProof needlessProof isOwed hasSteps _>>_
     needless-steps lt =
         refusal-reported (justifying c (length room)) room 11 0
-        (rw (goes-on (single 10 0 (noProof c)) (single 11 0 (needlessProof c) ∷ []) (rw e) ∙ stops _ _ 11 0 (refl, refl, rw (e, lt-ltb 0 (c .steps) lt))))
+        (rw (goes-on (single 10 0 (noProof c)) (single 11 0 (needlessProof c) ∷ checksIfOwed (owes c) c (length room)) (rw e) ∙ stops _ _ 11 0 (refl, refl, rw (e, lt-ltb 0 (c .steps) lt))))
 
     pub nothing-owed-reported : c .steps ≤ 0 → Reported (justifying c (length room)) room NoneOwed room
-    unfolding justifying owingChecks noProof needlessProof isOwed hasSteps ending report verdictMeant _>>_
+    unfolding justifying caseChecks owingChecks noProof needlessProof isOwed hasSteps checksIfOwed found foundIfOwed report verdictMeant inOrder _>>_
     nothing-owed-reported le =
-        let passed = hold-all (owingChecks c) (rw e, (rw (e, le-ltb 0 (c .steps) le), tt)) in
+        let passed = skip-before (owingChecks c) (checksIfOwed (owes c) c (length room)) (rw e, (rw (e, le-ltb 0 (c .steps) le), tt)) in
         record { verdict = rw (passed, e); room-is = rw (passed, e) }
 
   module _ (f : Formula) (e : owes c ≡ some f) where
     pub owed-without-steps : c .steps ≡ 0 → Reported (justifying c (length room)) room (Refused 10 0) room
-    unfolding justifying owingChecks noProof isOwed hasSteps _>>_
-    owed-without-steps z = refusal-reported (justifying c (length room)) room 10 0 (rw (stops (single 10 0 (noProof c)) (single 11 0 (needlessProof c) ∷ []) 10 0 (refl, refl, rw (e, z))))
+    unfolding justifying caseChecks owingChecks noProof isOwed hasSteps _>>_
+    owed-without-steps z = refusal-reported (justifying c (length room)) room 10 0 (rw (stops (single 10 0 (noProof c)) (single 11 0 (needlessProof c) ∷ checksIfOwed (owes c) c (length room)) 10 0 (refl, refl, rw (e, z))))
 
     pub owed-with-steps : (r : Verdict) (after : List ℕ) → 0 < c .steps → Reported (proof c (length room)) room r after → Reported (justifying c (length room)) room r after
-    unfolding justifying owingChecks noProof needlessProof isOwed hasSteps ending _>>_
+    unfolding justifying proof caseChecks owingChecks noProof needlessProof isOwed hasSteps checksIfOwed found foundIfOwed
     owed-with-steps r after lt =
-        let passed = hold-all (owingChecks c) (rw (e, lt-ltb 0 (c .steps) lt), (rw e, tt)) in
+        let passed = skip-before (owingChecks c) (checksIfOwed (owes c) c (length room)) (rw (e, lt-ltb 0 (c .steps) lt), (rw e, tt)) in
         reported-as (rw (passed, e))
 
 -- The whole answer: the outcome, and demand 3 with it.
@@ -115,14 +125,17 @@ unfolding outcome
 answered s room r after h = promises.answered (λ v. v) s room (verdictMeant r) after (h .verdict) (h .room-is)
 
 pub answered-refused : (s room : List ℕ) (n p : ℕ) → refuses n p ≡ admission s → Answered (λ v. v) s room (verdictMeant (Refused n p)) room
-unfolding finding _>>_
-answered-refused s room n p e = answered s room (Refused n p) room (refusal-reported (finding s (length room)) room n p (rw (← e)))
+unfolding finding allChecks admission _>>_
+answered-refused s room n p e =
+    answered s room (Refused n p) room
+    (refusal-reported (finding s (length room)) room n p (rw (← stop-before (admissionChecks s) (caseChecks (caseOf s) (length room)) e)))
 
 pub answered-admitted :
     (s room : List ℕ) (r : Verdict) (after : List ℕ) → accepts tt ≡ admission s → Reported (justifying (caseOf s) (length room)) room r after →
     Answered (λ v. v) s room (verdictMeant r) after
-unfolding finding _>>_
-answered-admitted s room r after e h = answered s room r after (reported-as (rw (← e)) h)
+unfolding finding allChecks admission justifying
+answered-admitted s room r after e h =
+    answered s room r after (reported-as (rw (skip-before (admissionChecks s) (caseChecks (caseOf s) (length room)) (all-hold (admissionChecks s) (sym e)))) h)
 
 -- An admitted file, with the table that the admission has filled, is what the rest is lent.
 pub case-lent :

@@ -1,11 +1,11 @@
--- What a verdict and a room report.
+-- What a verdict and a room report, after the last check, the end, the steps, and all that follows the admission: each with what is found where its checks hold.
 use Prim.Native.Nat.{ℕ}
 use mathlib.Core.Path.{_≡_}
 use mathlib.Core.List.{List, [], _∷_}
 use Rattle.definition.specs.04-Checks.{Checked, accepts, _>>_, single, inOrder}
 use Rattle.definition.specs.17-Case.{Case}
 use Rattle.definition.specs.22-Steps.{State}
-use Rattle.definition.specs.31-Outcome.{Finding, justified, needed, shortRoom, dischargedList, citedList, report}
+use Rattle.definition.specs.31-Outcome.{Finding, justified, needed, shortRoom, dischargedList, citedList, endChecks, finalState, proofChecks, caseChecks, found, report}
 use Rattle.checker.specs.Meanings.{verdictMeant}
 use Rattle.checker.specs.declared.verdict.Verdict.{Verdict}
 
@@ -14,6 +14,24 @@ unfoldable pub listing : Case → State → ℕ → Checked Finding
 listing c s room = do
   inOrder (single 23 (needed c s) (shortRoom c s room) ∷ [])
   accepts (justified (dischargedList c s) (citedList c s))
+
+-- Checks 20 to 23, of the state that the steps have left.
+unfoldable pub concluding : Case → State → ℕ → Checked Finding
+concluding c s room = do
+  inOrder (endChecks c s room)
+  accepts (justified (dischargedList c s) (citedList c s))
+
+-- Checks 12 to 23.
+unfoldable pub proof : Case → ℕ → Checked Finding
+proof c room = do
+  inOrder (proofChecks c room)
+  accepts (justified (dischargedList c (finalState c)) (citedList c (finalState c)))
+
+-- Checks 10 to 23.
+unfoldable pub justifying : Case → ℕ → Checked Finding
+justifying c room = do
+  inOrder (caseChecks c room)
+  accepts (found c)
 
 -- The verdict and the room report what the checks have found.
 pub record Reported (x : Checked Finding) (room : List ℕ) (r : Verdict) (after : List ℕ) : Type 0 where

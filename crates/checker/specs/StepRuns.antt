@@ -3,9 +3,9 @@ use Prim.Native.Nat.{ℕ, zero, suc, _+_}
 use mathlib.Core.Bool.{Bool}
 use mathlib.Core.Path.{_≡_}
 use mathlib.Core.List.{List}
-use Rattle.definition.specs.04-Checks.{Checked, accepts, _>>_, inOrder}
+use Rattle.definition.specs.04-Checks.{inOrder}
 use Rattle.definition.specs.17-Case.{Case, caseOf}
-use Rattle.definition.specs.22-Steps.{State, next, stepChecks, runFrom}
+use Rattle.definition.specs.22-Steps.{State, next, stepChecks, checksOfSteps}
 use Rattle.words.specs.Meanings.{failureMeant}
 use Rattle.words.specs.declared.runs.Failure.{Failure}
 use Rattle.steps.specs.StepAnswers.{byRun, touched}
@@ -16,14 +16,8 @@ unfoldable pub afterRun : Case → (left k : ℕ) → State → State
 afterRun c zero k s = s
 afterRun c (suc left) k s = byRun (inOrder (stepChecks c k s)) (afterRun c left (k + 1) (next c k s)) (touched c k s)
 
--- What the code's answer to the steps stands for.
-unfoldable pub ranMeant : Failure → State → Checked State
-ranMeant r s = do
-  failureMeant r
-  accepts s
-
--- The steps from the state s: accepted or refused, and every entry of the tables.
+-- The steps from the state s: the first check that fails, and every entry of the tables.
 pub record RunGives (f : List ℕ) (s : State) (r : Failure) (o : List ℕ) (u c d : List Bool) : Type 0 where
   pub tables : Tables o u c d
-  pub is : ranMeant r (stateOf o u c d) ≡ runFrom (caseOf f) (caseOf f .steps) 0 s
+  pub is : failureMeant r ≡ inOrder (checksOfSteps (caseOf f) (caseOf f .steps) 0 s)
   pub state : stateOf o u c d ≡ afterRun (caseOf f) (caseOf f .steps) 0 s

@@ -16,11 +16,10 @@ ghost use Prim.Native.Nat.{_<_};
 ghost use lib.ListN.{length};
 ghost use Rattle.definition.specs.11-Layout.{step-part, count};
 ghost use Rattle.definition.specs.17-Case.{caseOf};
-ghost use Rattle.definition.specs.31-Outcome.{proof, justifying};
 ghost use Rattle.definition.specs.45-Promises.{Answered};
 ghost use Rattle.case_file.specs.LentCase.{CaseLent};
 ghost use Rattle.checker.specs.Meanings.{verdictMeant};
-ghost use Rattle.checker.specs.Reports.{Reported};
+ghost use Rattle.checker.specs.Reports.{proof, justifying, Reported};
 
 // Checks 12 to 23 of a case that has steps.
 fn check_steps(file: &[u8], book: &[u8], views: &[u16; 1024], room: &mut [u16]) -> Verdict

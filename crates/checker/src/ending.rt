@@ -23,12 +23,12 @@ ghost use Rattle.definition.specs.02-Ranges.{lowest};
 ghost use Rattle.definition.specs.11-Layout.{step-part, count};
 ghost use Rattle.definition.specs.18-Admission.{Parted};
 ghost use Rattle.definition.specs.17-Case.{caseOf};
-ghost use Rattle.definition.specs.31-Outcome.{wrongEnd, concluding};
+ghost use Rattle.definition.specs.31-Outcome.{wrongEnd};
 ghost use Rattle.tables.specs.Sets.{labelsOf};
 ghost use Rattle.steps.specs.WorkingTables.{stateOf, Tables};
 ghost use Rattle.case_file.specs.LentCase.{CaseLent};
 ghost use Rattle.case_parts.specs.ShapedSteps.{EarlierNumbered};
-ghost use Rattle.checker.specs.Reports.{listing, Reported};
+ghost use Rattle.checker.specs.Reports.{listing, concluding, Reported};
 
 // The lowest of the first `n` labels that is open, or `n`.
 fn first_open(open_labels: OpenSet, n: usize) -> usize

@@ -1,15 +1,15 @@
 -- Laws of runs of checks: what it takes that one accepts, and where a refusal comes from. Each by the cases of its first check.
 -- Assumes nothing.
 use Prim.Native.Nat.{ℕ, _+_, _≤_, _<_}
-use mathlib.Core.Path.{_≡_, refl, sym, _∙_}
-use mathlib.Core.Bool.{Bool, true, false}
+use mathlib.Core.Path.{_≡_, refl, sym, subst, _∙_}
+use mathlib.Core.Bool.{Bool, true, false, _||_}
 use mathlib.Core.Logic.{_⊎_, inl, inr, ⊎-elim}
 use mathlib.Core.List.{List, [], _∷_, _++_}
 use native.Mathlib.Omega.{arith}
-use lib.Dec.{eqb}
-use borrow.Author.Tests.{ltb-true, lt-ltb, le-ltb}
+use lib.Dec.{T, eqb}
+use borrow.Author.Tests.{ltb-true, lt-ltb, le-ltb, eq-eqb}
 use Rattle.definition.specs.02-Ranges.{any, lowest}
-use Rattle.definition.specs.04-Checks.{Checked, accepts, refuses, _>>_, _>>=_, Check, single, each, check, try, inOrder, Holds, Fails, AllHold, FirstFault, here, later}
+use Rattle.definition.specs.04-Checks.{Checked, accepts, refuses, _>>_, Check, single, each, numberOf, check, try, inOrder, Holds, Fails, AllHold, FirstFault, here, later}
 use Rattle.definition.proofs.RangeLaws.{any-false, any-none, lowest-found, lowest-is, lowest-any}
 
 pub then-assoc : {A B C : Type 0} (a : Checked A) (b : Checked B) (c : Checked C) → _>>_ (_>>_ a b) c ≡ _>>_ a (_>>_ b c)
@@ -33,25 +33,12 @@ unfolding _>>_
 then-accepts (accepts x) b v e = ((x, refl), e)
 then-accepts (refuses n p) b v e = absurd (never-both (let z : accepts v ≡ refuses n p = cc in z))
 
-pub bind-accepts :
-    {A B : Type 0} (a : Checked A) (f : A → Checked B) (v : B) → _>>=_ a f ≡ accepts v → (x : A) × (a ≡ accepts x) × (f x ≡ accepts v)
-unfolding _>>=_
-bind-accepts (accepts x) f v e = (x, refl, e)
-bind-accepts (refuses n p) f v e = absurd (never-both (let z : accepts v ≡ refuses n p = cc in z))
-
 pub then-refuses :
     {A B : Type 0} (a : Checked A) (b : Checked B) (n p : ℕ) → _>>_ a b ≡ refuses n p →
     (a ≡ refuses n p) ⊎ (((x : A) × (a ≡ accepts x)) × (b ≡ refuses n p))
 unfolding _>>_
 then-refuses (accepts x) b n p e = inr ((x, refl), e)
 then-refuses (refuses m q) b n p e = inl (cc)
-
-pub bind-refuses :
-    {A B : Type 0} (a : Checked A) (f : A → Checked B) (n p : ℕ) → _>>=_ a f ≡ refuses n p →
-    (a ≡ refuses n p) ⊎ ((x : A) × (a ≡ accepts x) × (f x ≡ refuses n p))
-unfolding _>>=_
-bind-refuses (accepts x) f n p e = inr (x, refl, e)
-bind-refuses (refuses m q) f n p e = inl (cc)
 
 -- A run that stops, and one that goes on, before another.
 pub then-stops : {A B : Type 0} {a : Checked A} (b : Checked B) {n p : ℕ} → refuses n p ≡ a → refuses n p ≡ _>>_ a b
@@ -168,21 +155,17 @@ fault-first (here {c = c} {cs = cs} {n = n} {p = p} f) = stops c cs n p f
 fault-first (later {c = c} {cs = cs} h f) = goes-on c cs h ∙ fault-first f
 
 -- What the checks of one number say where all checks of a list hold: first to last, wherever they stand in it.
-abbrev number : Check → ℕ
-number (single n p fault) = n
-number (each n count fault) = n
-
 abbrev Besides : Bool → Type 0 → Type 0 → Type 0
 Besides true A B = A × B
 Besides false A B = B
 
 abbrev pub ByNumber : ℕ → List Check → Type 0
 ByNumber n [] = Unit {0}
-ByNumber n (c ∷ cs) = Besides (eqb n (number c)) (Holds c) (ByNumber n cs)
+ByNumber n (c ∷ cs) = Besides (eqb n (numberOf c)) (Holds c) (ByNumber n cs)
 
 pub by-number : (n : ℕ) (cs : List Check) → AllHold cs → ByNumber n cs
 by-number n [] h = tt
-by-number n (c ∷ cs) h = besides (eqb n (number c)) (h .0) (by-number n cs (h .1))
+by-number n (c ∷ cs) h = besides (eqb n (numberOf c)) (h .0) (by-number n cs (h .1))
   where
     besides : {A B : Type 0} (b : Bool) → A → B → Besides b A B
     besides true x y = (x, y)
@@ -210,3 +193,37 @@ skip-behind (c ∷ cs) ds h = rw (skip-behind cs ds h)
 -- A fault of the first of two lists is the first of both.
 pub stop-before : (cs ds : List Check) {n p : ℕ} → refuses n p ≡ inOrder cs → refuses n p ≡ inOrder (cs ++ ds)
 stop-before cs ds e = then-stops (inOrder ds) e ∙ sym (in-order-append cs ds)
+
+-- The first fault of two lists is the first of one of them; of the second where all checks of the first hold.
+pub fault-either : (cs ds : List Check) {n p : ℕ} → FirstFault (cs ++ ds) n p → FirstFault cs n p ⊎ (AllHold cs × FirstFault ds n p)
+fault-either [] ds f = inr (tt, f)
+fault-either (c ∷ cs) ds (here f) = inl (here f)
+fault-either (c ∷ cs) ds (later h f) = ⊎-elim (λ g. inl (later h g)) (λ g. inr ((h, g .0), g .1)) (fault-either cs ds f)
+
+pub fault-before : {cs : List Check} (ds : List Check) {n p : ℕ} → FirstFault cs n p → FirstFault (cs ++ ds) n p
+fault-before ds (here f) = here f
+fault-before ds (later h f) = later h (fault-before ds f)
+
+pub fault-behind : (cs : List Check) {ds : List Check} {n p : ℕ} → AllHold cs → FirstFault ds n p → FirstFault (cs ++ ds) n p
+fault-behind [] h f = f
+fault-behind (c ∷ cs) h f = later (h .0) (fault-behind cs (h .1) f)
+
+-- A check that fails has one of the list's numbers.
+abbrev pub hasNumber : ℕ → List Check → Bool
+hasNumber n [] = false
+hasNumber n (c ∷ cs) = eqb (numberOf c) n || hasNumber n cs
+
+failing-number : (c : Check) (n p : ℕ) → Fails c n p → numberOf c ≡ n
+failing-number (single m q fault) n p f = f .0
+failing-number (each m count fault) n p f = f .0
+
+pub has-number : {cs : List Check} {n p : ℕ} → FirstFault cs n p → hasNumber n cs ≡ true
+has-number (here {c = c} {n = n} {p = p} f) = rw (eq-eqb (numberOf c) n (failing-number c n p f))
+has-number (later {c = c} {cs = cs} {n = n} h f) = rw (has-number f) (or-true (eqb (numberOf c) n))
+  where
+    or-true : (b : Bool) → (b || true) ≡ true
+    or-true true = refl
+    or-true false = refl
+
+pub other-number : {A : Type 0} (cs : List Check) {n p : ℕ} → hasNumber n cs ≡ false → FirstFault cs n p → A
+other-number cs e f = let z : true ≡ false = sym (has-number f) ∙ e in absurd (subst T z tt)

@@ -8,22 +8,22 @@ use native.Mathlib.Omega.{arith}
 use lib.ListN.{length, drop}
 use lib.Dec.{eqb}
 use borrow.Author.Tests.{eqb-true}
-use Rattle.definition.proofs.Passes.{finalState, Passed, finding-passed}
-use Rattle.definition.proofs.PassesExactly.{reported}
+use Rattle.definition.proofs.Findings.{reported-pass}
+use Rattle.definition.proofs.ListLaws.{ascending-unique}
+use Rattle.definition.proofs.Passes.{Proved, entries, finding-proved}
 use Rattle.definition.proofs.RangeLaws.{members-among, members-ascend, all-true}
 use Rattle.definition.proofs.RuleLaws.{inside}
 use Rattle.definition.proofs.Sound.{once-each}
 use Rattle.definition.proofs.StateMarks.{cited-before, before-cited}
-use Rattle.definition.proofs.States.{stateAt, Fine}
 use Rattle.definition.proofs.StepLaws.{fine-parts}
 use Rattle.definition.specs.02-Ranges.{all, members}
 use Rattle.definition.specs.03-Lists.{Among}
 use Rattle.definition.specs.04-Checks.{Checked, accepts}
 use Rattle.definition.specs.17-Case.{Case, caseOf}
 use Rattle.definition.specs.21-Rules.{Names, rule, rules, ruleAt}
-use Rattle.definition.specs.22-Steps.{State, startState, ruleOf, citesNothing, isARow, isAnObligation, markIf, next, citationChecks}
-use Rattle.definition.specs.31-Outcome.{passed, Finding, justified, dischargedList, citedList, finding, report, outcome}
-use Rattle.definition.specs.44-Demands.{Cites, PassLists, EachUseOnce}
+use Rattle.definition.specs.22-Steps.{State, startState, ruleOf, citesNothing, isARow, isAnObligation, markIf, next, citationChecks, stateAt}
+use Rattle.definition.specs.31-Outcome.{Finding, justified, dischargedList, citedList, needed, finalState, finding, report, outcome}
+use Rattle.definition.specs.44-Demands.{StepsHold, Cites, Cited, Needs, PassLists, EachUseOnce}
 
 -- of the sixteen rules only r has a name of this kind: a computed test says it of each
 only-rule : (named : Names → Bool) (r : ℕ) → all (λ q. not (named (ruleAt q .names)) || eqb q r) 16 0 ≡ true → (q : ℕ) → q < 16 → named (ruleAt q .names) ≡ true → q ≡ r
@@ -32,7 +32,7 @@ only-rule named r e q lt h =
     eqb-true q r (rw h at t)
 
 -- Obligations and rows are listed alike. A mark of the final state is one that a step of the rule made, and its entry is there.
-module _ (c : Case) (fine : (k : ℕ) → k < c .steps → Fine c k (stateAt c k)) (marks : State → ℕ → Bool) (named : Names → Bool) (r count : ℕ)
+module _ (c : Case) (fine : StepsHold c (c .steps)) (marks : State → ℕ → Bool) (named : Names → Bool) (r count : ℕ)
     (empty : (x : ℕ) → marks startState x ≡ false)
     (turn : (k : ℕ) (s : State) → marks (next c k s) ≡ markIf (named (ruleOf c k .names)) (marks s) (c .step k .argument))
     (only : (q : ℕ) → q < 16 → named (ruleAt q .names) ≡ true → q ≡ r)
@@ -52,15 +52,43 @@ module _ (c : Case) (fine : (k : ℕ) → k < c .steps → Fine c k (stateAt c k
           (omega arith, omega arith, before-cited c marks named empty turn (c .steps) (q .0) x (q .1) (rw (q .2) that) (q .3)),
     )
 
-duties-cited : (c : Case) → ((k : ℕ) → k < c .steps → Fine c k (stateAt c k)) → (o : ℕ) → Among o (dischargedList c (finalState c)) ↔ Cites c 12 o
+duties-cited : (c : Case) → StepsHold c (c .steps) → (o : ℕ) → Among o (dischargedList c (finalState c)) ↔ Cites c 12 o
 unfolding dischargedList startState next ruleAt rules rule isAnObligation citesNothing all
 duties-cited c fine =
     listed-cited c fine (λ s. s .discharged) isAnObligation 12 (c .obligations) (λ x. refl) (λ k s. refl) (only-rule isAnObligation 12 refl) refl (λ a e. inside a (c .obligations) e)
 
-rows-cited : (c : Case) → ((k : ℕ) → k < c .steps → Fine c k (stateAt c k)) → (x : ℕ) → Among x (citedList c (finalState c)) ↔ Cites c 2 x
+rows-cited : (c : Case) → StepsHold c (c .steps) → (x : ℕ) → Among x (citedList c (finalState c)) ↔ Cites c 2 x
 unfolding citedList startState next ruleAt rules rule isARow citesNothing all
 rows-cited c fine =
     listed-cited c fine (λ s. s .cited) isARow 2 (c .rows) (λ x. refl) (λ k s. refl) (only-rule isARow 2 refl) refl (λ a e. inside a (c .rows) e)
+
+-- The two lists of the final state are those of what the steps cite, and no others are.
+pub lists-cited : (c : Case) → StepsHold c (c .steps) → Cited c (dischargedList c (finalState c)) (citedList c (finalState c))
+unfolding dischargedList citedList
+lists-cited c fine =
+    record {
+      duties-ascend = members-ascend (finalState c .discharged) (c .obligations) 0;
+      rows-ascend = members-ascend (finalState c .cited) (c .rows) 0;
+      duties-cited = duties-cited c fine;
+      rows-cited = rows-cited c fine;
+    }
+
+as-much : {A B C : Type 0} → A ↔ C → B ↔ C → A ↔ B
+as-much f g = (λ a. g .1 (f .0 a), λ b. f .1 (g .0 b))
+
+module _ {s : List ℕ} (p : Proved s) where
+  pub needs-entries : Needs (caseOf s) (entries s)
+  unfolding entries needed
+  needs-entries = (dischargedList (caseOf s) (finalState (caseOf s)), citedList (caseOf s) (finalState (caseOf s)), lists-cited (caseOf s) (p .proves .fine), refl)
+
+  pub needs-only : {n : ℕ} → Needs (caseOf s) n → entries s ≡ n
+  unfolding entries needed
+  needs-only needs =
+      let l = lists-cited (caseOf s) (p .proves .fine) in
+      let c = needs .2 in
+      let d = ascending-unique (dischargedList (caseOf s) (finalState (caseOf s))) (needs .0) (l .duties-ascend) (c .duties-ascend) (λ x. as-much (l .duties-cited x) (c .duties-cited x)) in
+      let r = ascending-unique (citedList (caseOf s) (finalState (caseOf s))) (needs .1) (l .rows-ascend) (c .rows-ascend) (λ x. as-much (l .rows-cited x) (c .rows-cited x)) in
+      rw (d, r) (needs .3)
 
 reported-room :
     (x : Checked Finding) (room ds rs : List ℕ) (d r : ℕ) → x ≡ accepts (justified ds rs) → length ds ≡ d → length rs ≡ r →
@@ -68,33 +96,24 @@ reported-room :
 unfolding report
 reported-room x room ds rs d r e ld lr = rw (e, ← ld, ← lr)
 
--- what a pass was, with the fine steps
-passed-was : (s room : List ℕ) (d r : ℕ) → outcome s room .verdict ≡ passed d r → Passed s (length room)
-unfolding outcome
-passed-was s room d r e =
-    let x = reported (finding s (length room)) room d r e in
-    finding-passed s (length room) (x .0) (x .1) (x .2) .0
-
 pub pass-lists : PassLists
-unfolding outcome dischargedList citedList
+unfolding outcome
 pass-lists s room d r e =
     let c = caseOf s in
-    let x = reported (finding s (length room)) room d r e in
-    let p = finding-passed s (length room) (x .0) (x .1) (x .2) in
-    let fine = p .0 .proves .fine in
+    let x = reported-pass (finding s (length room)) room d r e in
+    let p = finding-proved s (length room) (x .0) (x .1) (x .2) in
     record {
       duties = x .0;
       rows = x .1;
       room-is = reported-room (finding s (length room)) room (x .0) (x .1) d r (x .2) (x .3) (x .4);
       duties-count = x .3;
       rows-count = x .4;
-      duties-ascend = rw (p .1) (members-ascend (finalState c .discharged) (c .obligations) 0);
-      rows-ascend = rw (p .2) (members-ascend (finalState c .cited) (c .rows) 0);
-      duties-cited = λ o. rw (p .1) (duties-cited c fine o);
-      rows-cited = λ k. rw (p .2) (rows-cited c fine k);
+      cited = rw (p .2, p .3) (lists-cited c (p .0 .proves .fine));
     }
 
 pub each-use-once : EachUseOnce
-unfolding ruleOf ruleAt rules rule isAnObligation
+unfolding outcome ruleOf ruleAt rules rule isAnObligation
 each-use-once s room d r e j k o lj lk rj rk aj ak m =
-    once-each (caseOf s) (passed-was s room d r e .proves .fine) lj lk (rw rj, aj) (rw rk, ak) m
+    let x = reported-pass (finding s (length room)) room d r e in
+    let p = finding-proved s (length room) (x .0) (x .1) (x .2) in
+    once-each (caseOf s) (p .0 .proves .fine) lj lk (rw rj, aj) (rw rk, ak) m

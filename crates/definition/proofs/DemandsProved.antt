@@ -1,26 +1,34 @@
 -- The three demands, proved of the definition. Each is stated in specs/44-Demands. Assumes nothing.
 use Rattle.definition.proofs.CitedLists as cited
+use Rattle.definition.proofs.NoneOwed as none
 use Rattle.definition.proofs.OneNumber.{one-number}
 use Rattle.definition.proofs.PassesExactly as account
+use Rattle.definition.proofs.Findings as order
 use Rattle.definition.proofs.RefusalTable as table
 use Rattle.definition.proofs.RoomLaws as room
+use Rattle.definition.proofs.StruckFile as struck
 use Rattle.definition.proofs.UnseenRows as unseen
-use Rattle.definition.specs.44-Demands.{RefusalKeepsRoom, NoneOwedKeepsRoom, PassKeepsRest, RefusalInTable, PassesExactly, PassLists, EachUseOnce, UnseenRowsAreUnseen, AsIfStruck, OneMeaningOneNumber}
+use Rattle.definition.specs.44-Demands.{RefusalKeepsRoom, NoneOwedKeepsRoom, PassKeepsRest, FirstIsTold, RefusedByTable, StepIsPlace, PassesExactly, RefusedForRoom, NoneOwedExactly, PassLists, EachUseOnce, UnseenRowsAreUnseen, AsIfStruck, StrikesUnseen, OneMeaningOneNumber}
 
 pub record Demand1 : Type 0 where
   pub refusal-keeps-room : RefusalKeepsRoom
   pub none-owed-keeps-room : NoneOwedKeepsRoom
   pub pass-keeps-rest : PassKeepsRest
-  pub refusal-in-table : RefusalInTable
+  pub first-is-told : FirstIsTold
+  pub refused-by-table : RefusedByTable
+  pub step-is-place : StepIsPlace
 
 pub record Demand2 : Type 0 where
   pub passes-exactly : PassesExactly
+  pub refused-for-room : RefusedForRoom
+  pub none-owed-exactly : NoneOwedExactly
   pub pass-lists : PassLists
   pub each-use-once : EachUseOnce
 
 pub record Demand3 : Type 0 where
   pub unseen-rows-are-unseen : UnseenRowsAreUnseen
   pub as-if-struck : AsIfStruck
+  pub strikes-unseen : StrikesUnseen
 
 pub demand-1 : Demand1
 demand-1 =
@@ -28,19 +36,28 @@ demand-1 =
       refusal-keeps-room = room.refusal-keeps-room;
       none-owed-keeps-room = room.none-owed-keeps-room;
       pass-keeps-rest = room.pass-keeps-rest;
-      refusal-in-table = table.refusal-in-table;
+      first-is-told = order.first-is-told;
+      refused-by-table = table.refused-by-table;
+      step-is-place = table.step-is-place;
     }
 
 pub demand-2 : Demand2
 demand-2 =
     record {
       passes-exactly = account.passes-exactly;
+      refused-for-room = account.refused-for-room;
+      none-owed-exactly = none.none-owed-exactly;
       pass-lists = cited.pass-lists;
       each-use-once = cited.each-use-once;
     }
 
 pub demand-3 : Demand3
-demand-3 = record { unseen-rows-are-unseen = unseen.unseen-rows-are-unseen; as-if-struck = unseen.as-if-struck }
+demand-3 =
+    record {
+      unseen-rows-are-unseen = unseen.unseen-rows-are-unseen;
+      as-if-struck = unseen.as-if-struck;
+      strikes-unseen = struck.strikes-unseen;
+    }
 
 pub one-meaning-one-number : OneMeaningOneNumber
 one-meaning-one-number = one-number

@@ -1,107 +1,149 @@
--- What a pass takes: the file admitted, something owed, every step without fault, every check at the end held; and nothing more. By taking the run of checks apart.
+-- What a pass takes: the file admitted, something owed, every step without fault, every check at the end held; and nothing more. By taking the order of all checks apart.
 -- Assumes nothing.
-use Prim.Native.Nat.{ℕ, _+_, _≤_, _<_}
-use mathlib.Core.Path.{_≡_, refl, sym, ap, _∙_}
+use Prim.Native.Nat.{ℕ, _≤_, _<_}
+use mathlib.Core.Path.{_≡_, refl, sym, _∙_}
 use mathlib.Core.Bool.{true, false}
 use mathlib.Core.Option.{Option, none, some}
 use mathlib.Core.List.{List}
 use native.Mathlib.Omega.{arith}
 use borrow.Author.Tests.{ltb-true, ltb-false, lt-ltb, le-ltb, not-false}
-use Rattle.definition.proofs.CheckLaws.{then-accepts, bind-accepts, all-hold, hold-all, by-number}
+use Rattle.definition.proofs.CheckLaws.{all-hold, hold-all, by-number, both-hold, hold-both, fault-behind, other-number}
+use Rattle.definition.proofs.Findings.{finding-holds, holds-finding, fault-finding}
+use Rattle.definition.proofs.RefusalTable.{steps-of-owed, owed-of-steps}
 use Rattle.definition.proofs.RuleLaws.{that-is}
-use Rattle.definition.proofs.States.{accepted, stateAt, Fine, run-fine, fine-run}
+use Rattle.definition.proofs.States.{steps-fine, fine-steps}
 use Rattle.definition.proofs.TreeEquality.{same-refl}
-use Rattle.definition.specs.04-Checks.{Checked, accepts, _>>_, _>>=_, inOrder}
+use Rattle.definition.specs.04-Checks.{single, each, Holds, Fails, AllHold, FirstFault, here, later, accepts, refuses}
+use Rattle.definition.specs.11-Layout.{layoutChecks}
 use Rattle.definition.specs.13-Formulas.{Formula}
+use Rattle.definition.specs.14-Book.{bookChecks}
+use Rattle.definition.specs.15-Records.{logChecks, recordChecks}
 use Rattle.definition.specs.17-Case.{Case, caseOf}
-use Rattle.definition.specs.18-Admission.{admission}
+use Rattle.definition.specs.18-Admission.{admissionChecks, admission}
 use Rattle.definition.specs.21-Rules.{isThat}
-use Rattle.definition.specs.22-Steps.{State, startState, runFrom}
-use Rattle.definition.specs.31-Outcome.{Finding, justified, owes, isOwed, hasSteps, noProof, needlessProof, lastStep, unusedStep, openLabel, wrongEnd, dischargedList, citedList, needed, shortRoom, owingChecks, endChecks, concluding, proof, ending, justifying, finding}
+use Rattle.definition.specs.22-Steps.{startState, citationChecks, fitChecks, shapeChecks, useChecks, stepChecks, checksOfSteps, stateAt}
+use Rattle.definition.specs.31-Outcome.{justified, owes, isOwed, hasSteps, noProof, needlessProof, lastStep, unusedStep, openLabel, wrongEnd, dischargedList, citedList, needed, shortRoom, owingChecks, endChecks, finalState, proofChecks, checksIfOwed, caseChecks, allChecks, foundIfOwed, found, finding}
+use Rattle.definition.specs.44-Demands.{StepsHold, InTable, in-admission, in-owing, in-step, in-end}
 
--- the state after all steps
-unfoldable pub finalState : Case → State
-finalState c = stateAt c (c .steps)
-
--- a justification of f that no check finds fault with, given a room of m entries
-pub record Proves (c : Case) (f : Formula) (m : ℕ) : Type 0 where
+-- a justification of f that no check finds fault with, whatever the room
+pub record Proves (c : Case) (f : Formula) : Type 0 where
   pub some-step : 0 < c .steps
-  pub fine : (k : ℕ) → k < c .steps → Fine c k (stateAt c k)
+  pub fine : StepsHold c (c .steps)
   pub used : (j : ℕ) → j < lastStep c → finalState c .used j ≡ true
   pub none-open : (l : ℕ) → l < c .labels → finalState c .opens (lastStep c) l ≡ false
   pub last-is : c .step (lastStep c) .formula ≡ f
-  pub enough : needed c (finalState c) ≤ m
-
-pub proof-proves :
-    (c : Case) (f : Formula) (m : ℕ) (x : Finding) → owes c ≡ some f → 0 < c .steps → proof c m ≡ accepts x →
-    Proves c f m × (x ≡ justified (dischargedList c (finalState c)) (citedList c (finalState c)))
-unfolding proof concluding endChecks finalState wrongEnd shortRoom unusedStep openLabel stateAt
-proof-proves c f m x owed steps e =
-    let b = bind-accepts (runFrom c (c .steps) 0 startState) _ x e in
-    let r = run-fine c (c .steps) 0 (b .0) (b .1) in
-    let all : 0 + c .steps ≡ c .steps = omega arith in
-    let is : b .0 ≡ stateAt c (c .steps) = r .0 ∙ ap (stateAt c) all in
-    let ends = then-accepts (inOrder (endChecks c (b .0) m)) _ x (b .2) in
-    let h = all-hold (endChecks c (b .0) m) (ends .0 .1) in
-    let l : some f ≡ some (c .step (lastStep c) .formula) = sym owed ∙ that-is _ (owes c) (not-false _ (by-number 22 (endChecks c (b .0) m) h .0)) in (
-      record {
-        some-step = steps;
-        fine = λ k lt. r .1 k (omega arith) (omega arith);
-        used = λ j lt. rw (← is) (not-false _ (by-number 20 (endChecks c (b .0) m) h .0 j lt));
-        none-open = λ l lt. rw (← is) (by-number 21 (endChecks c (b .0) m) h .0 l lt);
-        last-is = cc;
-        enough = rw (← is) (ltb-false m _ (by-number 23 (endChecks c (b .0) m) h .0));
-      },
-      rw (← is) (sym (accepted (ends .1))),
-    )
-
-pub proves-proof :
-    (c : Case) (f : Formula) (m : ℕ) → owes c ≡ some f → Proves c f m →
-    proof c m ≡ accepts (justified (dischargedList c (finalState c)) (citedList c (finalState c)))
-unfolding proof concluding endChecks finalState wrongEnd shortRoom unusedStep openLabel stateAt isThat _>>=_ _>>_
-proves-proof c f m owed p =
-    let all : 0 + c .steps ≡ c .steps = omega arith in
-    let run : runFrom c (c .steps) 0 startState ≡ accepts (stateAt c (c .steps)) = fine-run c (c .steps) 0 (λ k from to. p .fine k (omega arith)) ∙ ap {B = Checked State} (λ k. accepts (stateAt c k)) all in
-    let last : wrongEnd c ≡ false = rw (owed, p .last-is, same-refl f) in
-    let ends =
-    hold-all (endChecks c (stateAt c (c .steps)) m)
-    (λ k lt. rw (p .used k lt), (p .none-open, (last, (le-ltb m (needed c (stateAt c (c .steps))) (p .enough), tt)))) in
-    rw (run, ends)
 
 -- the file is admitted, f is owed, and the justification proves it
-pub record Passed (s : List ℕ) (m : ℕ) : Type 0 where
+pub record Proved (s : List ℕ) : Type 0 where
   pub admitted : admission s ≡ accepts tt
   pub owed-is : Formula
   pub owed : owes (caseOf s) ≡ some owed-is
-  pub proves : Proves (caseOf s) owed-is m
+  pub proves : Proves (caseOf s) owed-is
 
-ended : (o : Option Formula) (c : Case) (m : ℕ) (ds rs : List ℕ) → ending o c m ≡ accepts (justified ds rs) → (f : Formula) × (o ≡ some f) × (proof c m ≡ accepts (justified ds rs))
-unfolding ending
-ended none c m ds rs e = absurd (let z : _≡_ {A = ℕ} 0 1 = cc in omega arith)
-ended (some f) c m ds rs e = (f, refl, e)
+-- The entries that the two lists need.
+unfoldable pub entries : List ℕ → ℕ
+entries s = needed (caseOf s) (finalState (caseOf s))
 
-pub steps-there : (c : Case) {f : Formula} → owes c ≡ some f → noProof c ≡ false → 0 < c .steps
-unfolding noProof isOwed hasSteps
-steps-there c owed e = ltb-true 0 (c .steps) (not-false _ (rw owed at e))
+-- Checks 20 to 22 make a proof of the steps.
+ends-prove :
+    (c : Case) (f : Formula) → owes c ≡ some f → 0 < c .steps → StepsHold c (c .steps) →
+    ((j : ℕ) → j < lastStep c → unusedStep (finalState c) j ≡ false) → ((l : ℕ) → l < c .labels → openLabel c (finalState c) l ≡ false) → wrongEnd c ≡ false →
+    Proves c f
+unfolding unusedStep openLabel wrongEnd
+ends-prove c f owed steps fine used none-open last =
+    let l : some f ≡ some (c .step (lastStep c) .formula) = sym owed ∙ that-is _ (owes c) (not-false _ last) in
+    record {
+      some-step = steps;
+      fine = fine;
+      used = λ j lt. not-false _ (used j lt);
+      none-open = none-open;
+      last-is = cc;
+    }
 
-pub finding-passed :
+module _ (s : List ℕ) where
+  abbrev c : Case
+  c = caseOf s
+
+  -- What stands before the end.
+  proved-before : {f : Formula} → AllHold (admissionChecks s) → owes c ≡ some f → Proves c f → Proved s
+  unfolding admission
+  proved-before {f} a owed p = record { admitted = hold-all (admissionChecks s) a; owed-is = f; owed = owed; proves = p }
+
+  -- All checks held, and something was owed.
+  held-proved : {f : Formula} (m : ℕ) → owes c ≡ some f → AllHold (allChecks s m) → Proved s × (entries s ≤ m)
+  unfolding allChecks caseChecks checksIfOwed proofChecks endChecks shortRoom entries stateAt
+  held-proved {f} m owed h =
+      let a = both-hold (admissionChecks s) (caseChecks c m) h in
+      let o = both-hold (owingChecks c) (checksIfOwed (owes c) c m) (a .1) in
+      let p : AllHold (proofChecks c m) = rw owed at (o .1) in
+      let e = both-hold (checksOfSteps c (c .steps) 0 startState) (endChecks c (finalState c) m) p in
+      let fine : StepsHold c (c .steps) = λ k lt. steps-fine c (c .steps) 0 (e .0) k (omega arith) (omega arith) in (
+        proved-before (a .0) owed
+            (ends-prove c f owed (steps-of-owed c (o .0) owed) fine
+            (by-number 20 (endChecks c (finalState c) m) (e .1) .0)
+            (by-number 21 (endChecks c (finalState c) m) (e .1) .0)
+            (by-number 22 (endChecks c (finalState c) m) (e .1) .0)),
+        ltb-false m _ (by-number 23 (endChecks c (finalState c) m) (e .1) .0),
+      )
+
+  -- Check 23 was the first to fail.
+  pub short-proved : (m n : ℕ) → InTable s m 23 n → Proved s × (entries s ≡ n) × (m < n)
+  unfolding admissionChecks layoutChecks bookChecks logChecks recordChecks owingChecks stepChecks shapeChecks useChecks citationChecks fitChecks endChecks shortRoom entries
+  short-proved m n (in-admission f) = other-number (admissionChecks s) refl f
+  short-proved m n (in-owing a f) = other-number (owingChecks c) refl f
+  short-proved m n (in-step {k = k} a o lt before f) = other-number (stepChecks c k (stateAt c k)) refl f
+  short-proved m n (in-end a o lt fine (here f)) = absurd (omega (arith, f .0))
+  short-proved m n (in-end a o lt fine (later u (here f))) = absurd (omega (arith, f .0))
+  short-proved m n (in-end a o lt fine (later u (later l (here f)))) = absurd (omega (arith, f .0))
+  short-proved m n (in-end a o lt fine (later u (later l (later w (here f))))) =
+      let owed = owed-of-steps c o lt in
+      (proved-before a (owed .1) (ends-prove c (owed .0) (owed .1) lt fine u l w), f .1, omega (arith, f .1, ltb-true m _ (f .2)))
+
+  -- What a proof leaves to check 23.
+  module _ (p : Proved s) where
+    all-owing : AllHold (owingChecks c)
+    unfolding owingChecks noProof needlessProof isOwed hasSteps
+    all-owing = (rw (p .owed, lt-ltb 0 (c .steps) (p .proves .some-step)), (rw (p .owed), tt))
+
+    before-end : AllHold (checksOfSteps c (c .steps) 0 startState)
+    unfolding stateAt
+    before-end = fine-steps c (c .steps) 0 (λ k from to. p .proves .fine k (omega arith))
+
+    last-right : wrongEnd c ≡ false
+    unfolding wrongEnd isThat
+    last-right = rw (p .owed, p .proves .last-is, same-refl (p .owed-is))
+
+    pub proved-passes : (m : ℕ) → entries s ≤ m → finding s m ≡ accepts (justified (dischargedList c (finalState c)) (citedList c (finalState c)))
+    unfolding admission allChecks caseChecks checksIfOwed proofChecks endChecks unusedStep openLabel shortRoom entries found foundIfOwed
+    proved-passes m enough =
+        let ends : AllHold (endChecks c (finalState c) m) = (λ k lt. rw (p .proves .used k lt), (p .proves .none-open, (last-right, (le-ltb m (needed c (finalState c)) enough, tt)))) in
+        let proof : AllHold (proofChecks c m) = hold-both (checksOfSteps c (c .steps) 0 startState) (endChecks c (finalState c) m) before-end ends in
+        let rest : AllHold (caseChecks c m) = hold-both (owingChecks c) (checksIfOwed (owes c) c m) all-owing (rw (p .owed) proof) in
+        holds-finding s m (hold-both (admissionChecks s) (caseChecks c m) (all-hold (admissionChecks s) (p .admitted)) rest) ∙ rw (p .owed)
+
+    pub proved-short : (m : ℕ) → m < entries s → finding s m ≡ refuses 23 (entries s)
+    unfolding admission allChecks caseChecks checksIfOwed proofChecks endChecks unusedStep openLabel shortRoom entries
+    proved-short m short =
+        let used : Holds (each 20 (lastStep c) (unusedStep (finalState c))) = λ k lt. rw (p .proves .used k lt) in
+        let fails : Fails (single 23 (needed c (finalState c)) (shortRoom c (finalState c) m)) 23 (entries s) = (refl, refl, lt-ltb m (needed c (finalState c)) short) in
+        let ends : FirstFault (endChecks c (finalState c) m) 23 (entries s) = later used (later (p .proves .none-open) (later last-right (here fails))) in
+        let proof : FirstFault (proofChecks c m) 23 (entries s) = fault-behind (checksOfSteps c (c .steps) 0 startState) before-end ends in
+        fault-finding s m (fault-behind (admissionChecks s) (all-hold (admissionChecks s) (p .admitted)) (fault-behind (owingChecks c) all-owing (rw (p .owed) proof)))
+
+-- Where the lists are found, something was owed, and they are those of the final state.
+lists-owed :
+    (o : Option Formula) (c : Case) {ds rs : List ℕ} → foundIfOwed o c ≡ justified ds rs →
+    (f : Formula) × (o ≡ some f) × (ds ≡ dischargedList c (finalState c)) × (rs ≡ citedList c (finalState c))
+unfolding foundIfOwed
+lists-owed none c e = absurd (let z : _≡_ {A = ℕ} 0 1 = cc in omega arith)
+lists-owed (some f) c e = (f, refl, cc, cc)
+
+pub finding-proved :
     (s : List ℕ) (m : ℕ) (ds rs : List ℕ) → finding s m ≡ accepts (justified ds rs) →
-    Passed s m × (ds ≡ dischargedList (caseOf s) (finalState (caseOf s))) × (rs ≡ citedList (caseOf s) (finalState (caseOf s)))
-unfolding finding justifying owingChecks
-finding-passed s m ds rs e =
-    let c = caseOf s in
-    let a = then-accepts (admission s) _ (justified ds rs) e in
-    let b = then-accepts (inOrder (owingChecks c)) _ (justified ds rs) (a .1) in
-    let n = ended (owes c) c m ds rs (b .1) in
-    let p = proof-proves c (n .0) m (justified ds rs) (n .1) (steps-there c (n .1) (by-number 10 (owingChecks c) (all-hold (owingChecks c) (b .0 .1)) .0)) (n .2) in
-    (record { admitted = a .0 .1; owed-is = n .0; owed = n .1; proves = p .0 }, cc (p .1), cc (p .1))
-
-pub passed-finding :
-    (s : List ℕ) (m : ℕ) → Passed s m →
-    finding s m ≡ accepts (justified (dischargedList (caseOf s) (finalState (caseOf s))) (citedList (caseOf s) (finalState (caseOf s))))
-unfolding finding justifying owingChecks noProof needlessProof isOwed hasSteps ending _>>_
-passed-finding s m p =
-    let c = caseOf s in
-    let some-steps = lt-ltb 0 (c .steps) (p .proves .some-step) in
-    let owing = hold-all (owingChecks c) (rw (p .owed, some-steps), (rw (p .owed), tt)) in
-    rw (p .admitted, owing, p .owed) (proves-proof c (p .owed-is) m (p .owed) (p .proves))
+    Proved s × (entries s ≤ m) × (ds ≡ dischargedList (caseOf s) (finalState (caseOf s))) × (rs ≡ citedList (caseOf s) (finalState (caseOf s)))
+unfolding found
+finding-proved s m ds rs e =
+    let h = finding-holds s m e in
+    let l = lists-owed (owes (caseOf s)) (caseOf s) (h .1) in
+    let p = held-proved s m (l .1) (h .0) in
+    (p .0, p .1, l .2, l .3)

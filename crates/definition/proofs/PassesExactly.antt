@@ -1,4 +1,4 @@
--- Demand 2: a case passes just if it is admitted, something is owed, and there is an account of it. Steps without fault make the trees, and the trees' steps are without fault.
+-- Demand 2: a case passes just if it is admitted, something is owed, there is an account of it, and the room has the entries needed. Steps without fault make the trees, and the trees' steps are without fault.
 -- Assumes nothing.
 use Prim.Native.Nat.{ℕ, _+_, _-_, _≤_, _<_}
 use mathlib.Core.Path.{_≡_, refl, sym, ap, _∙_}
@@ -10,43 +10,36 @@ use Rattle.definition.proofs.AdmissionLaws.{admitted-parted}
 use Rattle.definition.proofs.Complete.{Grown, grown, tests-at}
 use Rattle.definition.proofs.ConclusionLaws as conclusions
 use Rattle.definition.proofs.PartLaws.{part-few}
-use Rattle.definition.proofs.Passes.{finalState, Proves, Passed, finding-passed, passed-finding}
+use Rattle.definition.proofs.Findings.{reported-pass}
+use Rattle.definition.proofs.Passes.{Proves, Proved, entries, finding-proved, proved-passes, proved-short, short-proved}
+use Rattle.definition.proofs.RefusalTable.{refused-by-table}
+use Rattle.definition.proofs.CitedLists.{needs-entries, needs-only}
 use Rattle.definition.proofs.PremiseLaws.{share-same}
-use Rattle.definition.proofs.RangeLaws.{members-length}
 use Rattle.definition.proofs.RuleLaws.{Small}
 use Rattle.definition.proofs.Sound.{tree, reaches}
 use Rattle.definition.proofs.StateMarks.{used-before, before-used, cited-before, openAt, opens-at, joined-same}
-use Rattle.definition.proofs.States.{stateAt, Fine}
+use Rattle.definition.proofs.States.{Fine}
 use Rattle.definition.proofs.StepLaws.{Local, fine-parts, parts-fine, spans-adjoin, adjoin-spans}
 use Rattle.definition.proofs.Tests.{not-both, never-true}
 use Rattle.definition.specs.03-Lists.{Among}
-use Rattle.definition.specs.04-Checks.{Checked, accepts, refuses}
+use Rattle.definition.specs.04-Checks.{accepts}
 use Rattle.definition.specs.11-Layout.{mostRecords, condition-part, log-part, obligation-part, label-part}
 use Rattle.definition.specs.13-Formulas.{Formula}
 use Rattle.definition.specs.17-Case.{Case, caseOf}
 use Rattle.definition.specs.18-Admission.{admission}
-use Rattle.definition.specs.22-Steps.{Labels, startState, next, premisesOf, isAnObligation}
-use Rattle.definition.specs.31-Outcome.{passed, Finding, justified, nothing-owed, owes, lastStep, needed, dischargedList, citedList, finding, report, outcome}
+use Rattle.definition.specs.22-Steps.{Labels, startState, next, premisesOf, isAnObligation, stateAt}
+use Rattle.definition.specs.31-Outcome.{owes, lastStep, dischargedList, citedList, finalState, finding, report, outcome}
 use Rattle.definition.specs.42-Account.{Account}
-use Rattle.definition.specs.44-Demands.{PassesExactly}
-
--- what a reported pass was
-pub reported :
-    (x : Checked Finding) (room : List ℕ) (d r : ℕ) → report x room .verdict ≡ passed d r →
-    (ds : List ℕ) × (rs : List ℕ) × (x ≡ accepts (justified ds rs)) × (length ds ≡ d) × (length rs ≡ r)
-unfolding report
-reported (accepts (justified ds rs)) room d r e = (ds, rs, refl, cc, cc)
-reported (accepts nothing-owed) room d r e = absurd (let z : _≡_ {A = ℕ} 0 1 = cc in omega arith)
-reported (refuses n p) room d r e = absurd (let z : _≡_ {A = ℕ} 0 1 = cc in omega arith)
+use Rattle.definition.specs.44-Demands.{Justified, PassesExactly, RefusedForRoom}
 
 last-step : (c : Case) → 0 < c .steps → lastStep c + 1 ≡ c .steps
 unfolding lastStep
 last-step c h = omega arith
 
 -- an account from steps without fault
-proves-account : (c : Case) (f : Formula) (m : ℕ) → Proves c f m → Account c f
+proves-account : (c : Case) (f : Formula) → Proves c f → Account c f
 unfolding finalState lastStep
-proves-account c f m p =
+proves-account c f p =
     let last = lastStep c in
     let is : last + 1 ≡ c .steps = last-step c (p .some-step) in
     let inside : last < c .steps = omega arith in
@@ -107,9 +100,9 @@ module _ (c : Case) (f : Formula) (small : Small c) (a : Account c f) where
             omega arith;
       })
 
-  account-proves : (m : ℕ) → c .obligations + c .rows ≤ m → Proves c f m
-  unfolding finalState lastStep needed dischargedList citedList
-  account-proves m enough =
+  account-proves : Proves c f
+  unfolding finalState lastStep
+  account-proves =
       let last = lastStep c in
       let is : last + 1 ≡ c .steps = last-step c (a .some-step) in
       record {
@@ -124,7 +117,6 @@ module _ (c : Case) (f : Formula) (small : Small c) (a : Account c f) where
             never-true _
             (λ o. a .none-open l lt (ap (λ (L : Labels). L l) (whole .opens-is ∙ sym (opens-at c (c .steps) last (omega arith))) ∙ o));
         last-is = whole .formula-is;
-        enough = omega (arith, members-length (stateAt c (c .steps) .discharged) (c .obligations) 0, members-length (stateAt c (c .steps) .cited) (c .rows) 0);
       }
 
 case-small : (s : List ℕ) → admission s ≡ accepts tt → Small (caseOf s)
@@ -138,20 +130,42 @@ case-small s e =
       labels = omega (arith, part-few s f label-part (omega arith));
     }
 
+-- A file is justified exactly if something is owed and no check but 23 refuses it.
+proved-justified : (s : List ℕ) → Proved s → Justified s
+unfolding owes
+proved-justified s p = (p .admitted, p .owed-is, conclusions.drawn _ _ _ .1 (p .owed), proves-account (caseOf s) (p .owed-is) (p .proves))
+
+justified-proved : (s : List ℕ) → Justified s → Proved s
+unfolding owes
+justified-proved s j =
+    record {
+      admitted = j .0;
+      owed-is = j .1;
+      owed = conclusions.owing (j .2);
+      proves = account-proves (caseOf s) (j .1) (case-small s (j .0)) (j .3);
+    }
+
 pub passes-exactly : PassesExactly
-unfolding outcome report owes
-passes-exactly s room enough = (
+unfolding outcome report
+passes-exactly s room = (
   λ p.
-      let r = reported (finding s (length room)) room (p .0) (p .1) (p .2) in
-      let w = finding-passed s (length room) (r .0) (r .1) (r .2) .0 in
-      (w .admitted, w .owed-is, conclusions.drawn _ _ _ .1 (w .owed), proves-account (caseOf s) (w .owed-is) (length room) (w .proves)),
+      let r = reported-pass (finding s (length room)) room (p .0) (p .1) (p .2) in
+      let w = finding-proved s (length room) (r .0) (r .1) (r .2) in
+      (proved-justified s (w .0), entries s, needs-entries (w .0), w .1),
   λ j.
-      let w : Passed s (length room) =
-      record {
-        admitted = j .0;
-        owed-is = j .1;
-        owed = conclusions.owing (j .2);
-        proves = account-proves (caseOf s) (j .1) (case-small s (j .0)) (j .3) (length room) enough;
-      } in
-      (length (dischargedList (caseOf s) (finalState (caseOf s))), length (citedList (caseOf s) (finalState (caseOf s))), rw (passed-finding s (length room) w)),
+      let w = justified-proved s (j .0) in
+      let enough : entries s ≤ length room = omega (arith, needs-only w (j .2), j .3) in
+      (length (dischargedList (caseOf s) (finalState (caseOf s))), length (citedList (caseOf s) (finalState (caseOf s))), rw (proved-passes s w (length room) enough)),
+)
+
+pub refused-for-room : RefusedForRoom
+unfolding outcome report
+refused-for-room s room n = (
+  λ e.
+      let w = short-proved s (length room) n (refused-by-table s room 23 n .0 e) in
+      (proved-justified s (w .0), rw (w .1) at (needs-entries (w .0)), w .2),
+  λ j.
+      let w = justified-proved s (j .0) in
+      let is : entries s ≡ n = needs-only w (j .1) in
+      rw (proved-short s w (length room) (omega (arith, is, j .2)), is),
 )

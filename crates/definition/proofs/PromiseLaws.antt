@@ -1,6 +1,7 @@
 -- The promises of entry points: demand 3 comes with the definition's answer. Assumes nothing.
 use Prim.Native.Nat.{ℕ}
 use mathlib.Core.Path.{_≡_, ap, _∙_}
+use mathlib.Core.Logic.{inl, inr, ⊎-elim}
 use mathlib.Core.List.{List}
 use Rattle.definition.proofs.UnseenRows.{unseen-rows-are-unseen, as-if-struck, alike-admission, struck-admission}
 use Rattle.definition.specs.04-Checks.{Checked}
@@ -18,7 +19,7 @@ answered meant s room a after e f =
           λ t l ws wt.
           let same = unseen-rows-are-unseen s t room l ws wt in
           (e ∙ ap (λ o. meant (o .verdict)) same, f ∙ ap (λ o. o .room) same);
-      struck = λ w. let same = as-if-struck s room w in (e ∙ ap (λ o. meant (o .verdict)) same, f ∙ ap (λ o. o .room) same);
+      struck = ⊎-elim (λ same. inl (e ∙ ap (λ o. meant (o .verdict)) same, f ∙ ap (λ o. o .room) same)) (λ w. inr w) (as-if-struck s room);
     }
 
 -- An answer that stands for an answer.
@@ -31,5 +32,5 @@ admission-answered meant s a e =
     record {
       is = e;
       alike = λ t l ws wt. e ∙ ap meant (alike-admission s t l ws wt);
-      struck = λ w. e ∙ ap meant (struck-admission s w);
+      struck = ⊎-elim (λ same. inl (e ∙ ap meant same)) (λ w. inr w) (struck-admission s);
     }

@@ -1,77 +1,133 @@
--- Demand 1, on refusals: each is one of document 01's table. By taking the run of checks apart to the group that refuses.
+-- Demand 1, by groups: the first failing check is in a group before which all groups hold, and at a step before which all steps do. By taking the order of all checks apart.
 -- Assumes nothing.
-use Prim.Native.Nat.{ℕ, zero, suc, _+_, _<_}
-use mathlib.Core.Path.{_≡_}
+use Prim.Native.Nat.{ℕ, zero, suc, _+_, _≤_, _<_}
+use mathlib.Core.Path.{_≡_, refl, sym, _∙_}
 use mathlib.Core.Logic.{⊎-elim}
 use mathlib.Core.Option.{Option, none, some}
-use mathlib.Core.List.{List}
+use mathlib.Core.List.{List, [], _∷_}
+use native.Mathlib.Nat.{eq-or-lt-of-le}
 use native.Mathlib.Omega.{arith}
 use lib.ListN.{length}
-use Rattle.definition.proofs.CheckLaws.{then-refuses, bind-refuses, never-both, first-fault}
-use Rattle.definition.specs.04-Checks.{FirstFault, Checked, accepts, refuses, inOrder}
+use borrow.Author.Tests.{ltb-true, ltb-false, not-false}
+use Rattle.definition.proofs.CheckLaws.{by-number, fault-either, fault-before, fault-behind, other-number}
+use Rattle.definition.proofs.Findings.{first-is-told}
+use Rattle.definition.proofs.States.{state-next, Fine, fine-steps, steps-fine}
+use Rattle.definition.specs.04-Checks.{Check, single, each, AllHold, FirstFault, here, later}
 use Rattle.definition.specs.13-Formulas.{Formula}
 use Rattle.definition.specs.17-Case.{Case, caseOf}
-use Rattle.definition.specs.18-Admission.{admissionChecks, admission}
-use Rattle.definition.specs.22-Steps.{State, startState, stepChecks, stepAt, runFrom}
-use Rattle.definition.specs.31-Outcome.{refused, Finding, justified, nothing-owed, owes, owingChecks, endChecks, concluding, proof, ending, justifying, finding, report, outcome}
-use Rattle.definition.specs.44-Demands.{InTable, in-admission, in-owing, in-step, in-end, RefusalInTable}
+use Rattle.definition.specs.18-Admission.{admissionChecks}
+use Rattle.definition.specs.22-Steps.{startState, next, citationChecks, fitChecks, shapeChecks, useChecks, stepChecks, checksOfSteps, stateAt}
+use Rattle.definition.specs.31-Outcome.{owes, isOwed, hasSteps, noProof, needlessProof, owingChecks, endChecks, finalState, proofChecks, checksIfOwed, caseChecks, allChecks}
+use Rattle.definition.specs.44-Demands.{InTable, in-admission, in-owing, in-step, in-end, RefusedByTable, StepIsPlace}
 
-pub step-refuses : (c : Case) (k : ℕ) (s : State) (n p : ℕ) → stepAt c k s ≡ refuses n p → FirstFault (stepChecks c k s) n p
-unfolding stepAt
-step-refuses c k s n p e =
-    ⊎-elim (first-fault (stepChecks c k s) n p) (λ w. absurd (never-both (w .1))) (then-refuses (inOrder (stepChecks c k s)) _ n p e)
-
--- a run refuses at one of its steps, in some state
-record AtStep (c : Case) (last n p : ℕ) : Type 0 where
+-- The first fault of the steps from i on, of which `left` are left, is at one of them, and the steps before it are without fault.
+record AtStep (c : Case) (left i n p : ℕ) : Type 0 where
   step : ℕ
-  state : State
-  inside : step < last
-  fault : FirstFault (stepChecks c step state) n p
+  from : i ≤ step
+  to : step < i + left
+  before : (j : ℕ) → i ≤ j → j < step → Fine c j (stateAt c j)
+  fault : FirstFault (stepChecks c step (stateAt c step)) n p
 
-run-refuses : (c : Case) (left i : ℕ) (s : State) (n p : ℕ) → runFrom c left i s ≡ refuses n p → AtStep c (i + left) n p
-unfolding runFrom
-run-refuses c zero i s n p e = absurd (never-both e)
-run-refuses c (suc left) i s n p e =
-    ⊎-elim
-    (λ w. record { step = i; state = s; inside = omega arith; fault = step-refuses c i s n p w })
-    (λ w.
-    let r = run-refuses c left (i + 1) (w .0) n p (w .2) in
-    record { step = r .step; state = r .state; inside = omega (arith, r .inside); fault = r .fault })
-    (bind-refuses (stepAt c i s) (λ t. runFrom c left (i + 1) t) n p e)
+module _ (c : Case) where
+  steps-fault : (left i : ℕ) {n p : ℕ} → FirstFault (checksOfSteps c left i (stateAt c i)) n p → AtStep c left i n p
+  unfolding checksOfSteps
+  steps-fault zero i f = other-number [] refl f
+  steps-fault (suc left) i {n} {p} f =
+      ⊎-elim
+      (λ g. record { step = i; from = omega arith; to = omega arith; before = λ j le lt. absurd (omega arith); fault = g })
+      (λ g.
+      let r = steps-fault left (i + 1) (rw (state-next c i) (g .1)) in
+      record {
+        step = r .step;
+        from = omega (arith, r .from);
+        to = omega (arith, r .to);
+        before = λ j le lt. ⊎-elim (λ q. rw (← q) (g .0)) (λ l. r .before j (omega arith) lt) (eq-or-lt-of-le le);
+        fault = r .fault;
+      })
+      (fault-either (stepChecks c i (stateAt c i)) (checksOfSteps c left (i + 1) (next c i (stateAt c i))) f)
+
+  fault-steps : (left i k : ℕ) {n p : ℕ} → i ≤ k → k < i + left → ((j : ℕ) → i ≤ j → j < k → Fine c j (stateAt c j)) →
+      FirstFault (stepChecks c k (stateAt c k)) n p → FirstFault (checksOfSteps c left i (stateAt c i)) n p
+  unfolding checksOfSteps
+  fault-steps zero i k le lt fine f = absurd (omega arith)
+  fault-steps (suc left) i k {n} {p} le lt fine f =
+      ⊎-elim
+      (λ q. fault-before (checksOfSteps c left (i + 1) (next c i (stateAt c i))) (let g : FirstFault (stepChecks c i (stateAt c i)) n p = rw q f in g))
+      (λ l.
+      fault-behind (stepChecks c i (stateAt c i)) (fine i (omega arith) l)
+      (rw (← state-next c i) (fault-steps left (i + 1) k (omega arith) (omega arith) (λ j from to. fine j (omega arith) to) f)))
+      (eq-or-lt-of-le le)
+
+-- Where checks 10 and 11 hold, there are steps just if something is owed.
+pub steps-of-owed : (c : Case) → AllHold (owingChecks c) → {f : Formula} → owes c ≡ some f → 0 < c .steps
+unfolding owingChecks noProof isOwed hasSteps
+steps-of-owed c h owed = ltb-true 0 (c .steps) (not-false _ (rw owed at (by-number 10 (owingChecks c) h .0)))
+
+pub owed-of-steps : (c : Case) → AllHold (owingChecks c) → 0 < c .steps → (f : Formula) × (owes c ≡ some f)
+unfolding owingChecks needlessProof isOwed hasSteps
+owed-of-steps c h lt = go (owes c) refl
+  where
+    go : (o : Option Formula) → owes c ≡ o → (f : Formula) × (owes c ≡ some f)
+    go none e = let l = ltb-false 0 (c .steps) (rw e at (by-number 11 (owingChecks c) h .0)) in absurd (omega (arith, l))
+    go (some f) e = (f, e)
 
 module _ (s : List ℕ) (room n p : ℕ) where
-  proof-refuses : proof (caseOf s) room ≡ refuses n p → InTable s room n p
-  unfolding proof concluding
-  proof-refuses e =
-      let c = caseOf s in
+  abbrev c : Case
+  c = caseOf s
+
+  in-proof : 0 < c .steps → AllHold (admissionChecks s) → AllHold (owingChecks c) → FirstFault (proofChecks c room) n p → InTable s room n p
+  unfolding proofChecks stateAt
+  in-proof lt a o f =
       ⊎-elim
-      (λ w. let r = run-refuses c (c .steps) 0 startState n p w in in-step (r .state) (omega (arith, r .inside)) (r .fault))
-      (λ w.
-      ⊎-elim (λ f. in-end (w .0) (first-fault (endChecks c (w .0) room) n p f)) (λ f. absurd (never-both (f .1)))
-      (then-refuses (inOrder (endChecks c (w .0) room)) _ n p (w .2)))
-      (bind-refuses (runFrom c (c .steps) 0 startState) _ n p e)
+      (λ g. let r = steps-fault c (c .steps) 0 g in in-step a o (omega (arith, r .to)) (λ j lt. r .before j (omega arith) lt) (r .fault))
+      (λ g. in-end a o lt (λ j l. steps-fine c (c .steps) 0 (g .0) j (omega arith) (omega arith)) (g .1))
+      (fault-either (checksOfSteps c (c .steps) 0 startState) (endChecks c (finalState c) room) f)
 
-  ending-refuses : (o : Option Formula) → ending o (caseOf s) room ≡ refuses n p → InTable s room n p
-  unfolding ending
-  ending-refuses none e = absurd (never-both e)
-  ending-refuses (some f) e = proof-refuses e
+  in-owed : (o : Option Formula) → owes c ≡ o → AllHold (admissionChecks s) → AllHold (owingChecks c) → FirstFault (checksIfOwed o c room) n p → InTable s room n p
+  unfolding checksIfOwed
+  in-owed none e a h f = other-number [] refl f
+  in-owed (some q) e a h f = in-proof (steps-of-owed c h e) a h f
 
-  finding-refuses : finding s room ≡ refuses n p → InTable s room n p
-  unfolding finding admission justifying
-  finding-refuses e =
-      let c = caseOf s in
-      ⊎-elim (λ w. in-admission (first-fault (admissionChecks s) n p w))
-      (λ w.
-      ⊎-elim (λ f. in-owing (first-fault (owingChecks c) n p f)) (λ f. ending-refuses (owes c) (f .1))
-      (then-refuses (inOrder (owingChecks c)) _ n p (w .1)))
-      (then-refuses (admission s) _ n p e)
+  in-case : AllHold (admissionChecks s) → FirstFault (caseChecks c room) n p → InTable s room n p
+  unfolding caseChecks
+  in-case a f = ⊎-elim (λ g. in-owing a g) (λ g. in-owed (owes c) refl a (g .0) (g .1)) (fault-either (owingChecks c) (checksIfOwed (owes c) c room) f)
 
-reported-refusal : (x : Checked Finding) (room : List ℕ) (n p : ℕ) → report x room .verdict ≡ refused n p → x ≡ refuses n p
-unfolding report
-reported-refusal (accepts (justified ds rs)) room n p e = absurd (let z : _≡_ {A = ℕ} 0 1 = cc in omega arith)
-reported-refusal (accepts nothing-owed) room n p e = absurd (let z : _≡_ {A = ℕ} 0 1 = cc in omega arith)
-reported-refusal (refuses m q) room n p e = cc
+  fault-in-table : FirstFault (allChecks s room) n p → InTable s room n p
+  unfolding allChecks
+  fault-in-table f = ⊎-elim (λ g. in-admission g) (λ g. in-case (g .0) (g .1)) (fault-either (admissionChecks s) (caseChecks c room) f)
 
-pub refusal-in-table : RefusalInTable
-unfolding outcome
-refusal-in-table s room n p e = finding-refuses s (length room) n p (reported-refusal (finding s (length room)) room n p e)
+  of-proof : AllHold (admissionChecks s) → AllHold (owingChecks c) → 0 < c .steps → FirstFault (proofChecks c room) n p → FirstFault (allChecks s room) n p
+  unfolding allChecks caseChecks checksIfOwed
+  of-proof a o lt f = fault-behind (admissionChecks s) a (fault-behind (owingChecks c) o (rw (owed-of-steps c o lt .1) f))
+
+  table-fault : InTable s room n p → FirstFault (allChecks s room) n p
+  unfolding allChecks caseChecks proofChecks stateAt
+  table-fault (in-admission f) = fault-before (caseChecks c room) f
+  table-fault (in-owing a f) = fault-behind (admissionChecks s) a (fault-before (checksIfOwed (owes c) c room) f)
+  table-fault (in-step {k = k} a o lt before f) =
+      of-proof a o (omega arith)
+      (fault-before (endChecks c (finalState c) room) (fault-steps c (c .steps) 0 k (omega arith) (omega arith) (λ j from to. before j to) f))
+  table-fault (in-end a o lt all f) =
+      of-proof a o lt (fault-behind (checksOfSteps c (c .steps) 0 startState) (fine-steps c (c .steps) 0 (λ k from to. all k (omega arith))) f)
+
+pub refused-by-table : RefusedByTable
+refused-by-table s room n p = (
+  λ e. fault-in-table s (length room) n p (first-is-told s room n p .0 e),
+  λ t. first-is-told s room n p .1 (table-fault s (length room) n p t),
+)
+
+-- Each check of the list has the one place k.
+abbrev Placed : ℕ → List Check → Type 0
+Placed k [] = Unit {0}
+Placed k (single n p fault ∷ cs) = (p ≡ k) × Placed k cs
+Placed k (each n count fault ∷ cs) = ⊥
+
+placed-fault : {cs : List Check} (k n p : ℕ) → Placed k cs → FirstFault cs n p → p ≡ k
+placed-fault k n p a (here {c = single m q fault} f) = sym (f .1) ∙ a .0
+placed-fault k n p a (here {c = each m count fault} f) = absurd a
+placed-fault k n p a (later {c = single m q fault} h f) = placed-fault k n p (a .1) f
+placed-fault k n p a (later {c = each m count fault} h f) = absurd a
+
+pub step-is-place : StepIsPlace
+unfolding stepChecks shapeChecks useChecks citationChecks fitChecks
+step-is-place c k n p t = placed-fault k n p (search)

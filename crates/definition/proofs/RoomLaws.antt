@@ -6,8 +6,8 @@ use mathlib.Core.List.{List, _++_}
 use native.Mathlib.Omega.{arith}
 use lib.ListN.{length, drop, length-append, length-drop}
 use lib.Seq.{drop-append-seam}
-use Rattle.definition.proofs.Passes.{finding-passed}
-use Rattle.definition.proofs.PassesExactly.{reported}
+use Rattle.definition.proofs.Findings.{reported-pass}
+use Rattle.definition.proofs.Passes.{entries, finding-proved}
 use Rattle.definition.specs.04-Checks.{Checked, accepts, refuses}
 use Rattle.definition.specs.31-Outcome.{none-owed, refused, Finding, justified, nothing-owed, needed, finding, report, outcome}
 use Rattle.definition.specs.44-Demands.{RefusalKeepsRoom, NoneOwedKeepsRoom, PassKeepsRest}
@@ -44,8 +44,8 @@ written x room ds rs d r e ld lr enough =
     rw (e, ← ld, ← lr) (simp (length-append, length-drop) (omega arith), drop-lists ds rs (drop (length ds + length rs) room))
 
 pub pass-keeps-rest : PassKeepsRest
-unfolding outcome needed
+unfolding outcome needed entries
 pass-keeps-rest s room d r e =
-    let x = reported (finding s (length room)) room d r e in
-    let p = finding-passed s (length room) (x .0) (x .1) (x .2) in
-    written (finding s (length room)) room (x .0) (x .1) d r (x .2) (x .3) (x .4) (rw (p .1, p .2) (p .0 .proves .enough))
+    let x = reported-pass (finding s (length room)) room d r e in
+    let p = finding-proved s (length room) (x .0) (x .1) (x .2) in
+    written (finding s (length room)) room (x .0) (x .1) d r (x .2) (x .3) (x .4) (rw (p .2, p .3) (p .1))

@@ -9,13 +9,12 @@ use native.Mathlib.Nat.{eq-or-lt-of-le, le-of-suc-le-suc}
 use native.Mathlib.Omega.{arith}
 use lib.Dec.{eqb}
 use borrow.Author.Tests.{eqb-true, eqb-false, eq-eqb, ne-eqb}
-use Rattle.definition.proofs.States.{stateAt}
 use Rattle.definition.proofs.Tests.{not-both}
 use Rattle.definition.specs.02-Ranges.{update}
 use Rattle.definition.specs.03-Lists.{Among}
 use Rattle.definition.specs.17-Case.{Case}
 use Rattle.definition.specs.21-Rules.{Names}
-use Rattle.definition.specs.22-Steps.{State, startState, Labels, ruleOf, premisesOf, joined, leaves, markAll, markIf, next}
+use Rattle.definition.specs.22-Steps.{State, startState, Labels, ruleOf, premisesOf, joined, leaves, markAll, markIf, next, stateAt}
 
 pub update-same : {A : Type 0} (f : ℕ → A) (k : ℕ) (v : A) → update f k v k ≡ v
 unfolding update

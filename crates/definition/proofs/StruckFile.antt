@@ -3,26 +3,28 @@
 use Prim.Native.Nat.{ℕ, zero, suc, _+_, _*_, _-_, _/_, _%_, _≤_, _<_}
 use mathlib.Core.Bool.{Bool, true, false, cond, not, _&&_, _||_, and-false, false≢true}
 use mathlib.Core.Path.{_≡_, refl, sym, ap, fun-ext, _∙_}
-use mathlib.Core.Logic.{_⊎_, inl, inr}
+use mathlib.Core.Logic.{_⊎_, inl, inr, ⊎-elim}
 use mathlib.Core.List.{List, [], _∷_}
 use native.Mathlib.Omega.{arith}
 use lib.ListN.{length, getD, List·getD-eq-default}
 use lib.Dec.{ltb}
-use borrow.Author.Tests.{ltb-true, ltb-false, lt-ltb, le-ltb, le-leb, lt-leb}
+use borrow.Author.Tests.{ltb-true, ltb-false, lt-ltb, le-ltb, leb-true, le-leb, lt-leb, not-true}
 use Rattle.definition.proofs.AlikeFiles.{same-field}
-use Rattle.definition.proofs.PartLaws.{part-inside}
+use Rattle.definition.proofs.PartLaws.{part-whole, part-inside}
 use Rattle.definition.proofs.PartOrder.{log-start, behind-log}
-use Rattle.definition.proofs.RangeLaws.{any-none}
+use Rattle.definition.proofs.RangeLaws.{any-none, any-false}
+use Rattle.definition.proofs.Tests.{and-true, or-false, never-true}
 use Rattle.definition.proofs.Windows.{window-at, same-entry, same-window}
 use Rattle.definition.specs.01-Words.{word, absent}
 use Rattle.definition.specs.02-Ranges.{any}
-use Rattle.definition.specs.04-Checks.{AllHold}
+use Rattle.definition.specs.04-Checks.{each, Fails, AllHold, FirstFault, here}
 use Rattle.definition.specs.11-Layout.{headerBytes, formula-part, log-part, observer-part, condition-part, obligation-part, label-part, step-part, premise-part, recordBytes, agentOf, actionOf, offset, size, end, count, part, held, field, dueOffset, badLength, orphans, isMisplaced, faultyPart}
 use Rattle.definition.specs.13-Formulas.{Formula}
 use Rattle.definition.specs.15-Records.{rowAction, rowFrom, rowCount, observer, badSpan, badObserver, badAction, badLogRow, formulas, logChecks}
 use Rattle.definition.specs.16-Views.{isSeen, inUnseenAction, struckFrom, strike}
 use Rattle.definition.specs.18-Admission.{Parted}
 use Rattle.definition.specs.43-Alike.{RowAlike, Alike}
+use Rattle.definition.specs.44-Demands.{NoUnseenAction, StrikesUnseen}
 
 struck-length : (s bs : List ℕ) (i : ℕ) → length (struckFrom s bs i) ≡ length bs
 unfolding struckFrom
@@ -56,6 +58,15 @@ module _ (s : List ℕ) where
 
   of-unseen : (k at : ℕ) → at / 6 ≡ k → isSeen s k ≡ false → at % 6 < 2 → at < size s log-part → inUnseenAction s (offset s log-part + at) ≡ true
   of-unseen k at is e l h = rw (in-log at, is, e, lt-ltb at (size s log-part) h, lt-ltb (at % 6) 2 l)
+
+-- A file that check 1 or 2 refuses stays as it is.
+pub struck-or-parted : (s : List ℕ) → (strike s ≡ s) ⊎ Parted s
+unfolding strike
+struck-or-parted s = go (badLength s || any (faultyPart s) 8 0) refl
+  where
+    go : (b : Bool) → badLength s || any (faultyPart s) 8 0 ≡ b → (strike s ≡ s) ⊎ Parted s
+    go true e = inl (rw e)
+    go false e = let o = or-false (badLength s) (any (faultyPart s) 8 0) e in inr (record { long = o .0; sound = λ p h. any-false (faultyPart s) 8 0 (o .1) p (omega arith) (omega arith) })
 
 module _ (s : List ℕ) (f : Parted s) where
   strikes : strike s ≡ struckFrom s s 0
@@ -221,3 +232,54 @@ module _ (s : List ℕ) (f : Parted s) where
   log-stays-good trees h =
       let rows = same-count log-part (omega arith) in
       rw (← trees) (λ k below. row-stays-good (formulas s) k (omega arith) (h .0 k (omega arith)), tt)
+
+  -- A row that is at fault stays so, unless striking it out mends it.
+  absent-good : (l : List Formula) {a : ℕ} → a ≡ absent → badAction l a ≡ false
+  unfolding badAction
+  absent-good l e = rw e
+
+  row-stays-bad : (l : List Formula) (k : ℕ) → k < count s log-part → badLogRow s l k ≡ true → (badLogRow (strike s) l k ≡ true) ⊎ ((isSeen s k ≡ false) × (badAction l (rowAction s k) ≡ true))
+  unfolding badLogRow
+  row-stays-bad l k h bad = go (isSeen s k) (badAction l (rowAction s k)) refl refl
+    where
+      same-rest : badLogRow (strike s) l k ≡ badAction l (rowAction (strike s) k) || badSpan (rowFrom s) (rowCount s) (count s log-part) (count s observer-part) k || any (badObserver s (rowFrom s k)) (rowCount s k) (rowFrom s k)
+      same-rest = rw (same-from, same-len, same-observers, same-count log-part (omega arith), same-count observer-part (omega arith))
+
+      go : (b a : Bool) → isSeen s k ≡ b → badAction l (rowAction s k) ≡ a → (badLogRow (strike s) l k ≡ true) ⊎ ((isSeen s k ≡ false) × (badAction l (rowAction s k) ≡ true))
+      go true a e f = inl (same-rest ∙ rw (seen-action k e) bad)
+      go false true e f = inr (e, f)
+      go false false e f = inl (same-rest ∙ ap (λ c. c || badSpan (rowFrom s) (rowCount s) (count s log-part) (count s observer-part) k || any (badObserver s (rowFrom s k)) (rowCount s k) (rowFrom s k)) (absent-good l (unseen-action k h e) ∙ sym f) ∙ bad)
+
+  pub log-stays-bad : formulas s ≡ formulas (strike s) → (n p : ℕ) → FirstFault (logChecks s) n p → FirstFault (logChecks (strike s)) n p ⊎ ((n ≡ 5) × (isSeen s p ≡ false) × (badAction (formulas s) (rowAction s p) ≡ true))
+  unfolding logChecks
+  log-stays-bad trees n p (here f) =
+      let rows = same-count log-part (omega arith) in
+      ⊎-elim
+      (λ bad. inl (here (let g : Fails (each 5 (count (strike s) log-part) (badLogRow (strike s) (formulas (strike s)))) n p = (f .0, (omega (arith, f .1 .0), rw (← trees) bad, λ q lt. rw (← trees) (row-stays-good (formulas s) q (omega (arith, f .1 .0)) (f .1 .2 q lt)))) in g)))
+      (λ m. inr (sym (f .0), m .0, m .1))
+      (row-stays-bad (formulas s) p (f .1 .0) (f .1 .1))
+
+-- What striking out does: the actions of unseen rows are absent, and every other byte is kept.
+module _ (s : List ℕ) (f : Parted s) where
+  no-unseen-action : (i : ℕ) → NoUnseenAction s i → inUnseenAction s i ≡ false
+  unfolding inUnseenAction recordBytes count
+  no-unseen-action i none =
+      never-true _
+      (λ e.
+      let at = i - offset s log-part in
+      let a = and-true _ _ e in
+      let b = and-true _ _ (a .0) in
+      let c = and-true _ _ (b .0) in
+      let from = leb-true (offset s log-part) i (c .0) in
+      let to = ltb-true at (size s log-part) (c .1) in
+      let low = ltb-true (at % 6) 2 (b .1) in
+      let all = part-whole s f log-part (omega arith) in
+      none (at / 6) (omega (arith, to, all)) (not-true _ (a .1)) (first-two i (offset s log-part) (at / 6) (at % 6) low (omega (arith, from))))
+    where
+      first-two : (i o k r : ℕ) → r < 2 → i ≡ o + 6 * k + r → (i ≡ o + 6 * k) ⊎ (i ≡ o + 6 * k + 1)
+      first-two i o k zero lt e = inl (omega arith)
+      first-two i o k (suc zero) lt e = inr (omega arith)
+      first-two i o k (suc (suc r)) lt e = absurd (omega arith)
+
+pub strikes-unseen : StrikesUnseen
+strikes-unseen s f = (same-length s f, unseen-action s f, λ i none. kept s f i (no-unseen-action s f i none))

@@ -2,23 +2,24 @@
 -- all else is read from bytes that they share, and from what the agent sees of each row. Assumes nothing.
 use Prim.Native.Nat.{ℕ}
 use mathlib.Core.Path.{_≡_, refl, sym, ap, _∙_}
-use mathlib.Core.Logic.{_⊎_, inl, inr}
+use mathlib.Core.Logic.{_⊎_, inl, inr, ⊎-elim}
 use mathlib.Core.List.{List}
+use native.Mathlib.Omega.{arith}
 use lib.ListN.{length}
 use Rattle.definition.proofs.AdmissionLaws.{in-groups, layout-parted, parted-layout}
 use Rattle.definition.proofs.AlikeFiles.{Same, same}
-use Rattle.definition.proofs.CheckLaws.{then-assoc, second-agrees, all-hold, hold-all, first-fault}
-use Rattle.definition.proofs.StruckFile.{parted-struck, alike-struck, log-stays-good}
+use Rattle.definition.proofs.CheckLaws.{then-assoc, second-agrees, never-both, all-hold, hold-all, first-fault, fault-first, in-order-append}
+use Rattle.definition.proofs.StruckFile.{struck-or-parted, parted-struck, alike-struck, log-stays-good, log-stays-bad}
 use Rattle.definition.specs.04-Checks.{FirstFault, here, later, AllHold, Checked, accepts, refuses, _>>_, inOrder}
 use Rattle.definition.specs.11-Layout.{formula-part, part, layoutChecks}
 use Rattle.definition.specs.14-Book.{bookChecks}
-use Rattle.definition.specs.15-Records.{logChecks, recordChecks}
+use Rattle.definition.specs.15-Records.{formulas, logChecks, recordChecks}
 use Rattle.definition.specs.16-Views.{strike}
 use Rattle.definition.specs.17-Case.{caseOf}
-use Rattle.definition.specs.18-Admission.{Parted, admission}
-use Rattle.definition.specs.31-Outcome.{Finding, finding, justifying, report, outcome}
+use Rattle.definition.specs.18-Admission.{Parted, admissionChecks, admission}
+use Rattle.definition.specs.31-Outcome.{Finding, caseChecks, allChecks, found, finding, report, outcome}
 use Rattle.definition.specs.43-Alike.{Alike}
-use Rattle.definition.specs.44-Demands.{WellMade, WellMadeFile, UnseenRowsAreUnseen, AsIfStruck}
+use Rattle.definition.specs.44-Demands.{LeftAside, WellMade, WellMadeFile, Mended, UnseenRowsAreUnseen, AsIfStruck}
 
 -- Checks 3 and 4, and check 5.
 abbrev book-run : List ℕ → Checked (Unit {0})
@@ -28,14 +29,14 @@ abbrev log-run : List ℕ → Checked (Unit {0})
 log-run s = inOrder (logChecks s)
 
 -- The refusals that are left aside are those of check 1 and 2, and of check 5.
-layout-numbers : (s : List ℕ) {n p : ℕ} → FirstFault (layoutChecks s) n p → (n ≡ 1) ⊎ ((n ≡ 2) ⊎ (n ≡ 5))
+layout-numbers : (s : List ℕ) {n p : ℕ} → FirstFault (layoutChecks s) n p → LeftAside n
 unfolding layoutChecks
 layout-numbers s (here f) = inl (sym (f .0))
 layout-numbers s (later h (here f)) = inr (inl (sym (f .0)))
 
-log-numbers : (s : List ℕ) {n p : ℕ} → FirstFault (logChecks s) n p → (n ≡ 1) ⊎ ((n ≡ 2) ⊎ (n ≡ 5))
+log-numbers : (s : List ℕ) {n p : ℕ} → FirstFault (logChecks s) n p → LeftAside n
 unfolding logChecks
-log-numbers s (here f) = inr (inr (sym (f .0)))
+log-numbers s (here f) = inr (inr (omega (arith, f .0)))
 
 -- A run that begins with checks 1 to 5, whatever follows them, if that is the same for files that share all but the log.
 module _ {A : Type 0} (rest : List ℕ → Checked A) (same-rest : (s t : List ℕ) → Same s t → rest s ≡ rest t) where
@@ -44,7 +45,7 @@ module _ {A : Type 0} (rest : List ℕ → Checked A) (same-rest : (s t : List �
 
   -- It does not refuse by 1, 2 or 5.
   abbrev pub Made : List ℕ → Type 0
-  Made s = (n p : ℕ) → whole s ≡ refuses n p → (n ≡ 1) ⊎ ((n ≡ 2) ⊎ (n ≡ 5)) → ⊥
+  Made s = (n p : ℕ) → whole s ≡ refuses n p → LeftAside n → ⊥
 
   from-book : (s : List ℕ) → Parted s → whole s ≡ _>>_ (book-run s) (_>>_ (log-run s) (rest s))
   unfolding _>>_
@@ -67,39 +68,59 @@ module _ {A : Type 0} (rest : List ℕ → Checked A) (same-rest : (s t : List �
         go (accepts y) e = all-hold (logChecks s) e
         go (refuses n p) e = absurd (w n p (from-book s parted ∙ rw (b, e)) (log-numbers s (first-fault (logChecks s) n p e)))
 
-  -- Alike files that checks 1 and 2 let pass run alike, if check 5 accepts both where it is reached.
+  -- Alike files that checks 1 and 2 let pass run alike, if check 5 says the same of both where it is reached.
   from-log :
       (s t : List ℕ) → Parted s → Parted t → Alike s t →
-      ((x : Unit {0}) → book-run s ≡ accepts x → AllHold (logChecks s) × AllHold (logChecks t)) → whole s ≡ whole t
-  from-log s t f g a fine =
+      ((x : Unit {0}) → book-run s ≡ accepts x → log-run s ≡ log-run t) → whole s ≡ whole t
+  from-log s t f g a agree =
       let e = same s t f g a in
-      let both = second-agrees (book-run s) (log-run s) (log-run t) (rest s) (λ x b. hold-all (logChecks s) (fine x b .0) ∙ sym (hold-all (logChecks t) (fine x b .1))) in
-      from-book s f ∙ both ∙ rw (e .book, same-rest s t e) (sym (from-book t g))
+      from-book s f ∙ second-agrees (book-run s) (log-run s) (log-run t) (rest s) agree ∙ rw (e .book, same-rest s t e) (sym (from-book t g))
 
   pub alike-runs : (s t : List ℕ) → Alike s t → Made s → Made t → whole s ≡ whole t
   alike-runs s t a ws wt =
       let f = parted s ws in
       let g = parted t wt in
       let e = same s t f g a in
-      from-log s t f g a (λ x b. (rows-fine s ws x b, rows-fine t wt x (rw (← e .book) b)))
+      from-log s t f g a
+      (λ x b. hold-all (logChecks s) (rows-fine s ws x b) ∙ sym (hold-all (logChecks t) (rows-fine t wt x (rw (← e .book) b))))
 
-  pub struck-runs : (s : List ℕ) → Made s → whole s ≡ whole (strike s)
-  struck-runs s w =
-      let f = parted s w in
-      let g = parted-struck s f in
-      let a = alike-struck s f in
-      let e = same s (strike s) f g a in
-      from-log s (strike s) f g a
-      (λ x b.
-      let fine = rows-fine s w x b in
-      (fine, log-stays-good s f (e .trees) fine))
+  -- The struck file runs alike, unless check 5 refuses at a row that striking out mends.
+  abbrev pub AsStruck : List ℕ → Type 0
+  AsStruck s = (whole s ≡ whole (strike s)) ⊎ ((p : ℕ) × (whole s ≡ refuses 5 p) × Mended s p)
+
+  module _ (s : List ℕ) (f : Parted s) where
+    struck-agrees : ((x : Unit {0}) → book-run s ≡ accepts x → log-run s ≡ log-run (strike s)) → whole s ≡ whole (strike s)
+    struck-agrees agree = from-log s (strike s) f (parted-struck s f) (alike-struck s f) agree
+
+    trees : formulas s ≡ formulas (strike s)
+    trees = same s (strike s) f (parted-struck s f) (alike-struck s f) .trees
+
+    at-mended : (n p : ℕ) → log-run s ≡ refuses n p → n ≡ 5 → Mended s p → AsStruck s
+    unfolding _>>_
+    at-mended n p e five m = go (book-run s) refl
+      where
+        go : (r : Checked (Unit {0})) → book-run s ≡ r → AsStruck s
+        go (accepts x) b = inr (p, from-book s f ∙ rw (b, e, five), m)
+        go (refuses k q) b = inl (struck-agrees (λ x a. absurd (never-both (sym a ∙ b))))
+
+    parted-runs : AsStruck s
+    parted-runs = go (log-run s) refl
+      where
+        go : (r : Checked (Unit {0})) → log-run s ≡ r → AsStruck s
+        go (accepts y) e = inl (struck-agrees (λ x b. hold-all (logChecks s) (all-hold (logChecks s) e) ∙ sym (hold-all (logChecks (strike s)) (log-stays-good s f trees (all-hold (logChecks s) e)))))
+        go (refuses n p) e =
+            ⊎-elim (λ g. inl (struck-agrees (λ x b. e ∙ sym (fault-first g)))) (λ m. at-mended n p e (m .0) (m .1, m .2))
+            (log-stays-bad s f trees n p (first-fault (logChecks s) n p e))
+
+  pub struck-runs : (s : List ℕ) → AsStruck s
+  struck-runs s = ⊎-elim (λ e. inl (ap whole (sym e))) (λ f. parted-runs s f) (struck-or-parted s)
 
 -- What follows check 5 in an admission, and in the whole order of checks.
 abbrev records : List ℕ → Checked (Unit {0})
 records s = inOrder (recordChecks s)
 
 abbrev ends : ℕ → List ℕ → Checked Finding
-ends room s = _>>_ (inOrder (recordChecks s)) (justifying (caseOf s) room)
+ends room s = _>>_ (inOrder (recordChecks s)) (_>>_ (inOrder (caseChecks (caseOf s) room)) (accepts (found (caseOf s))))
 
 same-records : (s t : List ℕ) → Same s t → records s ≡ records t
 same-records s t e = ap inOrder (e .records)
@@ -109,8 +130,8 @@ same-ends room s t e = rw (e .records, e .case)
 
 -- The order of all checks is such a run.
 all-checks : (s : List ℕ) (room : ℕ) → finding s room ≡ whole (ends room) (same-ends room) s
-unfolding finding
-all-checks s room = rw (in-groups s) (simp then-assoc)
+unfolding finding allChecks admission
+all-checks s room = rw (in-order-append (admissionChecks s) (caseChecks (caseOf s) room), in-groups s) (simp then-assoc)
 
 -- A refusal by 1, 2 or 5 would be the outcome's.
 made : (s room : List ℕ) → WellMade s room → Made (ends (length room)) (same-ends (length room)) s
@@ -124,10 +145,12 @@ unseen-rows-are-unseen s t room a ws wt =
     ap (λ x. report x room) (all-checks s (length room) ∙ runs ∙ sym (all-checks t (length room)))
 
 pub as-if-struck : AsIfStruck
-unfolding outcome
-as-if-struck s room w =
-    let runs = struck-runs (ends (length room)) (same-ends (length room)) s (made s room w) in
-    ap (λ x. report x room) (all-checks s (length room) ∙ runs ∙ sym (all-checks (strike s) (length room)))
+unfolding outcome report
+as-if-struck s room =
+    ⊎-elim
+    (λ e. inl (ap (λ x. report x room) (all-checks s (length room) ∙ e ∙ sym (all-checks (strike s) (length room)))))
+    (λ m. inr (m .0, rw (all-checks s (length room) ∙ m .1), m .2))
+    (struck-runs (ends (length room)) (same-ends (length room)) s)
 
 -- The same of an admission.
 made-file : (s : List ℕ) → WellMadeFile s → Made records same-records s
@@ -136,5 +159,6 @@ made-file s w n p e = w n p (in-groups s ∙ e)
 pub alike-admission : (s t : List ℕ) → Alike s t → WellMadeFile s → WellMadeFile t → admission s ≡ admission t
 alike-admission s t a ws wt = in-groups s ∙ alike-runs records same-records s t a (made-file s ws) (made-file t wt) ∙ sym (in-groups t)
 
-pub struck-admission : (s : List ℕ) → WellMadeFile s → admission s ≡ admission (strike s)
-struck-admission s w = in-groups s ∙ struck-runs records same-records s (made-file s w) ∙ sym (in-groups (strike s))
+pub struck-admission : (s : List ℕ) → (admission s ≡ admission (strike s)) ⊎ ((p : ℕ) × (admission s ≡ refuses 5 p) × Mended s p)
+struck-admission s =
+    ⊎-elim (λ e. inl (in-groups s ∙ e ∙ sym (in-groups (strike s)))) (λ m. inr (m .0, in-groups s ∙ m .1, m .2)) (struck-runs records same-records s)

@@ -10,11 +10,7 @@ pub data Checked (A : Type 0) : Type 0 where
   accepts : A → Checked A
   refuses : (number place : ℕ) → Checked A
 
--- One run after another. These two give a `do` block its meaning: its lines are run in order.
-unfoldable pub _>>=_ : {A B : Type 0} → Checked A → (A → Checked B) → Checked B
-_>>=_ (accepts a) f = f a
-_>>=_ (refuses n p) f = refuses n p
-
+-- One run after another. This gives a `do` block its meaning: its lines are run in order.
 unfoldable pub _>>_ : {A B : Type 0} → Checked A → Checked B → Checked B
 _>>_ (accepts a) r = r
 _>>_ (refuses n p) r = refuses n p
@@ -23,6 +19,10 @@ _>>_ (refuses n p) r = refuses n p
 pub data Check : Type 0 where
   single : (number place : ℕ) (fault : Bool) → Check
   each : (number count : ℕ) (fault : ℕ → Bool) → Check
+
+abbrev pub numberOf : Check → ℕ
+numberOf (single n p fault) = n
+numberOf (each n count fault) = n
 
 -- Check `number` fails, with this place, where the test finds a fault.
 unfoldable pub check : (number place : ℕ) (fault : Bool) → Checked (Unit {0})
@@ -41,15 +41,16 @@ inOrder (c ∷ cs) = do
   try c
   inOrder cs
 
--- The same without a run. A check holds where its test finds no fault; it fails with its number at a place where the test finds one, and at no lower place.
+-- The same without a run. A check holds where its test finds no fault.
 abbrev pub Holds : Check → Type 0
 Holds (single n p fault) = fault ≡ false
 Holds (each n count fault) = (k : ℕ) → k < count → fault k ≡ false
 
--- The place is the lowest of `count` at which the test finds a fault.
+-- The place is the lowest of 0 to `count` - 1 at which the test finds a fault.
 abbrev pub Lowest : (fault : ℕ → Bool) → (count place : ℕ) → Type 0
 Lowest fault count p = (p < count) × (fault p ≡ true) × ((q : ℕ) → q < p → fault q ≡ false)
 
+-- A check fails with its number, at a place where the test finds a fault and at no lower one.
 abbrev pub Fails : Check → (number place : ℕ) → Type 0
 Fails (single n p fault) m q = (n ≡ m) × (p ≡ q) × (fault ≡ true)
 Fails (each n count fault) m q = (n ≡ m) × Lowest fault count q
@@ -66,5 +67,5 @@ pub data FirstFault : List Check → (number place : ℕ) → Type 0 where
 
 -- What an evaluation unfolds of this file.
 unfoldable pub evaluatedChecks : Unit {0}
-unfolding _>>=_ _>>_ check try inOrder
+unfolding _>>_ check try inOrder
 evaluatedChecks = tt

@@ -1,4 +1,4 @@
--- One step of a justification: checks 12 to 19 in their order, and what the step then changes.
+-- One step of a justification: checks 12 to 19 in their order, and what the step then changes; and the checks of all steps.
 use Prim.Native.Nat.{ℕ, zero, suc, _+_}
 use mathlib.Core.Bool.{Bool, true, false, not, _&&_, _||_}
 use mathlib.Core.Option.{Option, none, some}
@@ -6,7 +6,7 @@ use mathlib.Core.List.{List, [], _∷_, _++_, map}
 use lib.Dec.{eqb, ltb}
 use Rattle.definition.specs.01-Words.{absent}
 use Rattle.definition.specs.02-Ranges.{any, listed, update}
-use Rattle.definition.specs.04-Checks.{Check, single, Checked, accepts, _>>=_, _>>_, inOrder}
+use Rattle.definition.specs.04-Checks.{Check, single}
 use Rattle.definition.specs.13-Formulas.{Formula, each-use, isPolicy, closed, this-term, has}
 use Rattle.definition.specs.15-Records.{badSpan}
 use Rattle.definition.specs.16-Views.{RowView, hidden, struck, shows}
@@ -202,31 +202,28 @@ shapeChecks c k s =
     ∷ single 13 k (badPremises (s .used) k (premisesOf c k))
     ∷ citationChecks c (ruleOf c k .names) (c .step k .argument) k
 
--- Checks 17 to 19 of step k: it uses that as its rule allows.
+-- Checks 17 to 19 of step k: it uses what it rests on as its rule allows.
 unfoldable pub useChecks : Case → ℕ → State → List Check
 useChecks c k s =
     single 17 k (usedTwice c s (ruleOf c k) (c .step k .argument) (premisesOf c k))
     ∷ fitChecks c k
     ++ (single 19 k (notFresh c s k) ∷ [])
 
--- Step k "through 12 to 19 by number".
+-- Step k "through 12 to 19 by number", in the state that the steps before it have left.
 unfoldable pub stepChecks : Case → ℕ → State → List Check
 stepChecks c k s = shapeChecks c k s ++ useChecks c k s
 
--- The step, and the state after it.
-unfoldable pub stepAt : Case → ℕ → State → Checked State
-stepAt c k s = do
-  inOrder (stepChecks c k s)
-  accepts (next c k s)
+-- The checks of the steps from k on in order, `left` of them; s is the state before them.
+unfoldable pub checksOfSteps : Case → (left k : ℕ) → State → List Check
+checksOfSteps c zero k s = []
+checksOfSteps c (suc left) k s = stepChecks c k s ++ checksOfSteps c left (k + 1) (next c k s)
 
--- The steps from k on, `left` of them, in order.
-unfoldable pub runFrom : Case → ℕ → ℕ → State → Checked State
-runFrom c zero k s = accepts s
-runFrom c (suc left) k s = do
-  t ← stepAt c k s
-  runFrom c left (k + 1) t
+-- The state that the first k steps leave.
+unfoldable pub stateAt : Case → ℕ → State
+stateAt c zero = startState
+stateAt c (suc k) = next c k (stateAt c k)
 
 -- What an evaluation unfolds of this file.
 unfoldable pub evaluatedSteps : Unit {0}
-unfolding startState ruleOf premisesOf mustBeAbsent misshapen badPremises isNone citesAbsent citesNothing isARow isAnObligation isHidden isStruck citesHidden citesStruck joined isEachUse share isAdding usedTwice misfit notFresh leaves markAll markIf next citationChecks fitChecks shapeChecks useChecks stepChecks stepAt runFrom
+unfolding startState ruleOf premisesOf mustBeAbsent misshapen badPremises isNone citesAbsent citesNothing isARow isAnObligation isHidden isStruck citesHidden citesStruck joined isEachUse share isAdding usedTwice misfit notFresh leaves markAll markIf next citationChecks fitChecks shapeChecks useChecks stepChecks checksOfSteps stateAt
 evaluatedSteps = tt

@@ -1,4 +1,4 @@
--- The outcome of a case: the verdict, and the room afterwards. `finding` has the order of all groups of checks; each group lists its own where its tests are.
+-- The outcome of a case: the verdict, and the room afterwards. `allChecks` has the order of all groups of checks; each group lists its own where its tests are.
 use Prim.Native.Nat.{ℕ, _+_, _-_}
 use mathlib.Core.Bool.{Bool, true, false, not, _&&_}
 use mathlib.Core.Option.{Option, none, some}
@@ -6,12 +6,12 @@ use mathlib.Core.List.{List, [], _∷_, _++_}
 use lib.ListN.{length, drop}
 use lib.Dec.{ltb}
 use Rattle.definition.specs.02-Ranges.{members}
-use Rattle.definition.specs.04-Checks.{Check, single, each, Checked, accepts, refuses, _>>=_, _>>_, inOrder}
+use Rattle.definition.specs.04-Checks.{Check, single, each, Checked, accepts, refuses, _>>_, inOrder}
 use Rattle.definition.specs.13-Formulas.{Formula}
 use Rattle.definition.specs.17-Case.{Case, caseOf}
-use Rattle.definition.specs.18-Admission.{admission}
+use Rattle.definition.specs.18-Admission.{admissionChecks}
 use Rattle.definition.specs.21-Rules.{isThat, owed}
-use Rattle.definition.specs.22-Steps.{State, startState, runFrom}
+use Rattle.definition.specs.22-Steps.{State, startState, checksOfSteps, stateAt}
 
 -- "Passed (count of obligations, count of rows; ..)", "None owed", "Refused (number, place)".
 pub data Verdict : Type 0 where
@@ -88,33 +88,39 @@ endChecks c s room =
     ∷ single 23 (needed c s) (shortRoom c s room)
     ∷ []
 
--- What follows the last step.
-unfoldable pub concluding : Case → State → ℕ → Checked Finding
-concluding c s room = do
-  inOrder (endChecks c s room)
-  accepts (justified (dischargedList c s) (citedList c s))
+-- The state that all steps leave.
+unfoldable pub finalState : Case → State
+finalState c = stateAt c (c .steps)
 
 -- "Then steps in order, each through 12 to 19 by number; then 20 to 23."
-unfoldable pub proof : Case → ℕ → Checked Finding
-proof c room = do
-  s ← runFrom c (c .steps) 0 startState
-  concluding c s room
+unfoldable pub proofChecks : Case → (room : ℕ) → List Check
+proofChecks c room = checksOfSteps c (c .steps) 0 startState ++ endChecks c (finalState c) room
 
-unfoldable pub ending : Option Formula → Case → ℕ → Checked Finding
-ending none c room = accepts nothing-owed
-ending (some f) c room = proof c room
+-- Where nothing is owed, checks 10 and 11 are the last.
+unfoldable pub checksIfOwed : Option Formula → Case → (room : ℕ) → List Check
+checksIfOwed none c room = []
+checksIfOwed (some f) c room = proofChecks c room
 
 -- What follows the admission.
-unfoldable pub justifying : Case → ℕ → Checked Finding
-justifying c room = do
-  inOrder (owingChecks c)
-  ending (owes c) c room
+unfoldable pub caseChecks : Case → (room : ℕ) → List Check
+caseChecks c room = owingChecks c ++ checksIfOwed (owes c) c room
 
--- "Order: 1 to 11 by number, lowest place first; then steps in order, each through 12 to 19 by number; then 20 to 23": of the file s, with a room of so many entries.
-unfoldable pub finding : List ℕ → ℕ → Checked Finding
+-- All checks of the file s with a room of so many entries. "Order: 1 to 11 by number, lowest place first; then steps in order, each through 12 to 19 by number; then 20 to 23."
+unfoldable pub allChecks : List ℕ → (room : ℕ) → List Check
+allChecks s room = admissionChecks s ++ caseChecks (caseOf s) room
+
+-- What is found where all checks hold.
+unfoldable pub foundIfOwed : Option Formula → Case → Finding
+foundIfOwed none c = nothing-owed
+foundIfOwed (some f) c = justified (dischargedList c (finalState c)) (citedList c (finalState c))
+
+unfoldable pub found : Case → Finding
+found c = foundIfOwed (owes c) c
+
+unfoldable pub finding : List ℕ → (room : ℕ) → Checked Finding
 finding s room = do
-  admission s
-  justifying (caseOf s) room
+  inOrder (allChecks s room)
+  accepts (found (caseOf s))
 
 -- "The room's first entries hold the obligations, the part after them the log rows, later entries unchanged." Otherwise "room unchanged".
 unfoldable pub report : Checked Finding → List ℕ → Outcome
@@ -128,5 +134,5 @@ outcome s room = report (finding s (length room)) room
 
 -- What an evaluation unfolds of this file.
 unfoldable pub evaluatedOutcome : Unit {0}
-unfolding owes isOwed hasSteps noProof needlessProof lastStep unusedStep openLabel wrongEnd dischargedList citedList needed shortRoom owingChecks endChecks concluding proof ending justifying finding report outcome
+unfolding owes isOwed hasSteps noProof needlessProof lastStep unusedStep openLabel wrongEnd dischargedList citedList needed shortRoom owingChecks endChecks finalState proofChecks checksIfOwed caseChecks allChecks foundIfOwed found finding report outcome
 evaluatedOutcome = tt

@@ -1,23 +1,27 @@
--- The three demands, each as a statement about the definition. They are proved in proofs/DemandsProved.
-use Prim.Native.Nat.{ℕ, _+_, _≤_, _<_}
-use mathlib.Core.Bool.{false}
+-- The three demands, which the README states, as statements about the definition. They are proved in proofs/DemandsProved.
+use Prim.Native.Nat.{ℕ, _+_, _*_, _≤_, _<_}
+use mathlib.Core.Bool.{true, false}
 use mathlib.Core.Path.{_≡_}
 use mathlib.Core.Logic.{_⊎_, _↔_}
 use mathlib.Core.List.{List, _++_}
-use lib.ListN.{length, drop}
+use lib.ListN.{length, getD, drop}
+use Rattle.definition.specs.01-Words.{absent}
 use Rattle.definition.specs.03-Lists.{Among, Ascending}
-use Rattle.definition.specs.04-Checks.{FirstFault, accepts, refuses}
+use Rattle.definition.specs.04-Checks.{AllHold, FirstFault, accepts, refuses}
+use Rattle.definition.specs.11-Layout.{log-part, recordBytes, offset, count}
 use Rattle.definition.specs.13-Formulas.{Formula, each-use}
 use Rattle.definition.specs.14-Book.{book, bookRows, treeIn, badFormula, repeatsLower}
-use Rattle.definition.specs.16-Views.{strike}
+use Rattle.definition.specs.15-Records.{rowAction, badAction, formulas}
+use Rattle.definition.specs.16-Views.{isSeen, strike}
 use Rattle.definition.specs.17-Case.{Case, caseOf}
-use Rattle.definition.specs.18-Admission.{admissionChecks, admission}
-use Rattle.definition.specs.22-Steps.{State, stepChecks}
-use Rattle.definition.specs.31-Outcome.{owingChecks, endChecks, passed, none-owed, refused, outcome}
+use Rattle.definition.specs.18-Admission.{Parted, admissionChecks, admission}
+use Rattle.definition.specs.22-Steps.{State, stepChecks, stateAt}
+use Rattle.definition.specs.31-Outcome.{owingChecks, endChecks, finalState, allChecks, passed, none-owed, refused, outcome}
 use Rattle.definition.specs.42-Account.{Owes, Account}
 use Rattle.definition.specs.43-Alike.{Alike}
 
--- Demand 1. "On every case file, however damaged, the checker .. refuses with the number and place of the first failing check; a refusal keeps every entry of the room."
+-- Demand 1: every case file, however damaged, gets an answer; a refusal has the number and place of the first failing check, and keeps every entry of the room.
+-- That the checker ends, and touches only what it was lent, is promised of the code; here is the rest.
 
 -- A refusal keeps every entry of the room, and so does "none owed".
 abbrev pub RefusalKeepsRoom : Type 0
@@ -32,19 +36,35 @@ PassKeepsRest =
     (s room : List ℕ) (d r : ℕ) → outcome s room .verdict ≡ passed d r →
     (length (outcome s room .room) ≡ length room) × (drop (d + r) (outcome s room .room) ≡ drop (d + r) room)
 
--- A refusal by one of the groups of checks: a check of the group fails with this number, at this place and at no lower one, and those of the group before it hold.
+-- Every file and room has one verdict, for `outcome` is a function. It is "refused n p" exactly if the first of all checks that fails does so with number n at place p:
+-- that check fails at p and at no lower place, and every check before it holds.
+abbrev pub FirstIsTold : Type 0
+FirstIsTold = (s room : List ℕ) (n p : ℕ) → (outcome s room .verdict ≡ refused n p) ↔ FirstFault (allChecks s (length room)) n p
+
+-- All checks of the first k steps hold, each step's in the state that the steps before it leave.
+abbrev pub StepsHold : Case → ℕ → Type 0
+StepsHold c k = (j : ℕ) → j < k → AllHold (stepChecks c j (stateAt c j))
+
+-- The same by groups: all groups before that of the failing check hold, and where it is a step's, all checks of the steps before it.
 pub data InTable (s : List ℕ) (room : ℕ) : (number place : ℕ) → Type 0 where
   in-admission : {n p : ℕ} → FirstFault (admissionChecks s) n p → InTable s room n p
-  in-owing : {n p : ℕ} → FirstFault (owingChecks (caseOf s)) n p → InTable s room n p
-  in-step : {k n p : ℕ} (t : State) → k < caseOf s .steps → FirstFault (stepChecks (caseOf s) k t) n p → InTable s room n p
-  in-end : {n p : ℕ} (t : State) → FirstFault (endChecks (caseOf s) t room) n p → InTable s room n p
+  in-owing : {n p : ℕ} → AllHold (admissionChecks s) → FirstFault (owingChecks (caseOf s)) n p → InTable s room n p
+  in-step :
+      {k n p : ℕ} → AllHold (admissionChecks s) → AllHold (owingChecks (caseOf s)) → k < caseOf s .steps → StepsHold (caseOf s) k →
+      FirstFault (stepChecks (caseOf s) k (stateAt (caseOf s) k)) n p → InTable s room n p
+  in-end :
+      {n p : ℕ} → AllHold (admissionChecks s) → AllHold (owingChecks (caseOf s)) → 0 < caseOf s .steps → StepsHold (caseOf s) (caseOf s .steps) →
+      FirstFault (endChecks (caseOf s) (finalState (caseOf s)) room) n p → InTable s room n p
 
--- Every file and room has one verdict, for `outcome` is a function; a refusal is one of document 01's table.
-abbrev pub RefusalInTable : Type 0
-RefusalInTable = (s room : List ℕ) (n p : ℕ) → outcome s room .verdict ≡ refused n p → InTable s (length room) n p
+abbrev pub RefusedByTable : Type 0
+RefusedByTable = (s room : List ℕ) (n p : ℕ) → (outcome s room .verdict ≡ refused n p) ↔ InTable s (length room) n p
 
--- Demand 2. "A justification passes exactly if it follows the published rules. A pass lists obligations discharged and rows cited, each once, ascending;
--- no each-use obligation is discharged twice."
+-- The place of a check of a step is the step.
+abbrev pub StepIsPlace : Type 0
+StepIsPlace = (c : Case) (k n p : ℕ) (t : State) → FirstFault (stepChecks c k t) n p → p ≡ k
+
+-- Demand 2: a justification passes exactly if it follows the published rules; a pass lists obligations discharged and rows cited, each once, ascending;
+-- no each-use obligation is discharged twice.
 
 abbrev pub Passes : List ℕ → List ℕ → Type 0
 Passes s room = (d : ℕ) × (r : ℕ) × (outcome s room .verdict ≡ passed d r)
@@ -53,25 +73,43 @@ Passes s room = (d : ℕ) × (r : ℕ) × (outcome s room .verdict ≡ passed d 
 abbrev pub Justified : List ℕ → Type 0
 Justified s = (admission s ≡ accepts tt) × (f : Formula) × Owes (caseOf s .agent) (caseOf s .action) f × Account (caseOf s) f
 
--- With room for every obligation and row of the case, passing is just that.
-abbrev pub PassesExactly : Type 0
-PassesExactly = (s room : List ℕ) → caseOf s .obligations + caseOf s .rows ≤ length room → Passes s room ↔ Justified s
-
 -- A step of the rule cites the entry.
 abbrev pub Cites : Case → (rule entry : ℕ) → Type 0
 Cites c r a = (k : ℕ) × (k < c .steps) × (c .step k .rule ≡ r) × (c .step k .argument ≡ a)
 
--- What a pass writes: first the obligations, those that a step of rule 12 cites, then the rows, those that a step of rule 2 cites; the counts are the lists' lengths.
+-- The lists of what the steps cite: the obligations, by rule 12, and the log rows, by rule 2; each once, ascending.
+pub record Cited (c : Case) (duties rows : List ℕ) : Type 0 where
+  pub duties-ascend : Ascending duties
+  pub rows-ascend : Ascending rows
+  pub duties-cited : (o : ℕ) → Among o duties ↔ Cites c 12 o
+  pub rows-cited : (k : ℕ) → Among k rows ↔ Cites c 2 k
+
+-- The two lists have n entries together.
+abbrev pub Needs : Case → ℕ → Type 0
+Needs c n = (duties : List ℕ) × (rows : List ℕ) × Cited c duties rows × (length duties + length rows ≡ n)
+
+-- A file passes in a room exactly if it is justified and the room has the entries needed.
+abbrev pub PassesExactly : Type 0
+PassesExactly = (s room : List ℕ) → Passes s room ↔ (Justified s × (n : ℕ) × Needs (caseOf s) n × (n ≤ length room))
+
+-- Check 23 refuses exactly a justified file in a room with fewer entries than it needs, and tells how many it needs.
+abbrev pub RefusedForRoom : Type 0
+RefusedForRoom = (s room : List ℕ) (n : ℕ) → (outcome s room .verdict ≡ refused 23 n) ↔ (Justified s × Needs (caseOf s) n × (length room < n))
+
+-- The verdict is "none owed" exactly if the file is admitted, has no steps, and nothing is owed.
+abbrev pub NoneOwedExactly : Type 0
+NoneOwedExactly =
+    (s room : List ℕ) →
+    (outcome s room .verdict ≡ none-owed) ↔ ((admission s ≡ accepts tt) × (caseOf s .steps ≡ 0) × ((f : Formula) → Owes (caseOf s .agent) (caseOf s .action) f → ⊥))
+
+-- What a pass writes: first the obligations, then the rows; the counts are the lists' lengths.
 pub record Lists (s room : List ℕ) (d r : ℕ) : Type 0 where
   pub duties : List ℕ
   pub rows : List ℕ
   pub room-is : outcome s room .room ≡ duties ++ rows ++ drop (d + r) room
   pub duties-count : length duties ≡ d
   pub rows-count : length rows ≡ r
-  pub duties-ascend : Ascending duties
-  pub rows-ascend : Ascending rows
-  pub duties-cited : (o : ℕ) → Among o duties ↔ Cites (caseOf s) 12 o
-  pub rows-cited : (k : ℕ) → Among k rows ↔ Cites (caseOf s) 2 k
+  pub cited : Cited (caseOf s) duties rows
 
 abbrev pub PassLists : Type 0
 PassLists = (s room : List ℕ) (d r : ℕ) → outcome s room .verdict ≡ passed d r → Lists s room d r
@@ -84,26 +122,45 @@ EachUseOnce =
     caseOf s .step j .rule ≡ 12 → caseOf s .step k .rule ≡ 12 → caseOf s .step j .argument ≡ o → caseOf s .step k .argument ≡ o →
     caseOf s .obligation o .mark ≡ each-use → j ≡ k
 
--- Demand 3. "A log row that the agent does not see must not show through in the verdict, the place, the counts or the room, not even by which refusal comes.
--- The answer is the one for the log with every unseen row struck out."
+-- Demand 3: a log row that the agent does not see does not show through in the verdict, the place, the counts or the room, not even by which refusal comes;
+-- the answer is the one for the log with every unseen row struck out.
 
--- The file is not refused by 1, 2 or 5: such a refusal is of the file's make, which an unseen row has part in.
+-- What is left aside: refusals by 1, 2 and 5. These checks look at the file as it is made, unseen rows included.
+abbrev pub LeftAside : (number : ℕ) → Type 0
+LeftAside n = (n ≡ 1) ⊎ ((n ≡ 2) ⊎ (n ≡ 5))
+
+-- The file is not refused by one of these.
 abbrev pub WellMade : List ℕ → List ℕ → Type 0
-WellMade s room = (n p : ℕ) → outcome s room .verdict ≡ refused n p → (n ≡ 1) ⊎ ((n ≡ 2) ⊎ (n ≡ 5)) → ⊥
+WellMade s room = (n p : ℕ) → outcome s room .verdict ≡ refused n p → LeftAside n → ⊥
 
 -- The same, of the file by itself.
 abbrev pub WellMadeFile : List ℕ → Type 0
-WellMadeFile s = (n p : ℕ) → admission s ≡ refuses n p → (n ≡ 1) ⊎ ((n ≡ 2) ⊎ (n ≡ 5)) → ⊥
+WellMadeFile s = (n p : ℕ) → admission s ≡ refuses n p → LeftAside n → ⊥
 
--- Two files that are alike to the agent have the same outcome: verdict, number, place, counts, and every entry of the room.
+-- Two files that are alike to the agent have the same outcome, verdict, number, place, counts and every entry of the room, unless 1, 2 or 5 refuses one of them.
 abbrev pub UnseenRowsAreUnseen : Type 0
 UnseenRowsAreUnseen = (s t room : List ℕ) → Alike s t → WellMade s room → WellMade t room → outcome s room ≡ outcome t room
 
--- And it is that of the file with every unseen row struck out.
-abbrev pub AsIfStruck : Type 0
-AsIfStruck = (s room : List ℕ) → WellMade s room → outcome s room ≡ outcome (strike s) room
+-- Row p is unseen, and its action is at fault: striking it out mends the row.
+abbrev pub Mended : List ℕ → (row : ℕ) → Type 0
+Mended s p = (isSeen s p ≡ false) × (badAction (formulas s) (rowAction s p) ≡ true)
 
--- "No row repeats another, so one meaning has one number": in a book that checks 3 and 4 let pass, equal trees have equal numbers.
+-- The outcome of every file is that of the file with every unseen row struck out, but for one: check 5 refuses it at an unseen row whose action is at fault.
+abbrev pub AsIfStruck : Type 0
+AsIfStruck = (s room : List ℕ) → (outcome s room ≡ outcome (strike s) room) ⊎ ((p : ℕ) × (outcome s room .verdict ≡ refused 5 p) × Mended s p)
+
+-- "Striking out a row makes its action absent and changes no other byte." Byte i is not of the action of an unseen row.
+abbrev pub NoUnseenAction : List ℕ → (byte : ℕ) → Type 0
+NoUnseenAction s i = (k : ℕ) → k < count s log-part → isSeen s k ≡ false → (i ≡ offset s log-part + recordBytes log-part * k) ⊎ (i ≡ offset s log-part + recordBytes log-part * k + 1) → ⊥
+
+abbrev pub StrikesUnseen : Type 0
+StrikesUnseen =
+    (s : List ℕ) → Parted s →
+    (length (strike s) ≡ length s)
+    × ((k : ℕ) → k < count s log-part → isSeen s k ≡ false → rowAction (strike s) k ≡ absent)
+    × ((i : ℕ) → NoUnseenAction s i → getD (strike s) i 0 ≡ getD s i 0)
+
+-- Beside the demands, what lets the code compare numbers. "No row repeats another, so one meaning has one number": in a book that checks 3 and 4 let pass, equal trees have equal numbers.
 abbrev pub OneMeaningOneNumber : Type 0
 OneMeaningOneNumber =
     (s : List ℕ) →

@@ -1,26 +1,28 @@
 -- Demand 3 on examples: files that differ in a row that the agent does not see have the same outcome, whether a step cites that row or not;
--- and why the demand speaks of files that check 5 does not refuse.
+-- and what the demand leaves aside, files that check 1, 2 or 5 refuses, has to be left aside.
 use Prim.Native.Nat.{ℕ, zero, suc, _<_}
 use mathlib.Core.List.{List, [], _∷_, map}
 use mathlib.Core.Logic.{_⊎_, inl, inr}
-use mathlib.Core.Path.{_≡_, refl, ap}
+use mathlib.Core.Path.{_≡_, refl}
 use native.Mathlib.Omega.{arith}
-use lib.ListN.{length}
+use lib.ListN.{length, take}
 use Rattle.definition.specs.01-Words.{absent}
+use Rattle.definition.specs.16-Views.{strike}
 use Rattle.definition.specs.31-Outcome.{passed, refused, outcome}
 use Rattle.definition.specs.43-Alike.{RowAlike, Alike}
-use Rattle.definition.specs.44-Demands.{WellMade}
-use Rattle.definition.specs.51-Files.{fileOf, predicateRow, ownsRow, saysRow, communicatesRow, createsRow}
+use Rattle.definition.specs.44-Demands.{LeftAside, WellMade, Mended}
+use Rattle.definition.specs.51-Files.{words, laidOut, fileOf, formulaRow, predicateRow, ownsRow, saysRow, communicatesRow, createsRow}
 use Rattle.definition.specs.53-Desk.{DeskCase, computed, expected, lent, unchanged, writes, seenBy, ownerStep, built}
 
 -- Grant with a second row, which agent 0 does not see: its action and observers are given, and the row that the seen step cites.
-unfoldable pub twoRows : (action : ℕ) → (observers : List ℕ) → (cited : ℕ) → List ℕ
-twoRows action observers cited =
+-- Formula 5, which nothing uses, is creates(creator, 16384), with a code, which is to be 0.
+unfoldable pub twoRows : (code creator : ℕ) → (action : ℕ) → (observers : List ℕ) → (cited : ℕ) → List ℕ
+twoRows code creator action observers cited =
     fileOf
     (record {
       agent = 0;
       action = 4;
-      formulas = createsRow 0 16384 ∷ ownsRow 0 16384 ∷ predicateRow 7 1 16384 absent ∷ saysRow 0 2 1 ∷ communicatesRow 0 2 1 ∷ [];
+      formulas = createsRow 0 16384 ∷ ownsRow 0 16384 ∷ predicateRow 7 1 16384 absent ∷ saysRow 0 2 1 ∷ communicatesRow 0 2 1 ∷ formulaRow 9 code creator 16384 absent ∷ [];
       rows = 0 ∷ 0 ∷ 1 ∷ action ∷ 1 ∷ length observers ∷ [];
       observers = 0 ∷ observers;
       conditions = [];
@@ -31,22 +33,22 @@ twoRows action observers cited =
     })
 
 -- The same file but for the unseen row's action and observers.
-abbrev pub oneWay : (action cited : ℕ) → List ℕ
-oneWay action cited = twoRows action (1 ∷ []) cited
+abbrev pub oneWayIn : (code creator action cited : ℕ) → List ℕ
+oneWayIn code creator action cited = twoRows code creator action (1 ∷ []) cited
 
-abbrev pub otherWay : (action cited : ℕ) → List ℕ
-otherWay action cited = twoRows action (1 ∷ 2 ∷ []) cited
+abbrev pub otherWayIn : (code creator action cited : ℕ) → List ℕ
+otherWayIn code creator action cited = twoRows code creator action (1 ∷ 2 ∷ []) cited
 
-pub rows-alike : (a b c k : ℕ) → k < 2 → RowAlike (oneWay a c) (otherWay b c) k
+pub rows-alike : (code creator a b c k : ℕ) → k < 2 → RowAlike (oneWayIn code creator a c) (otherWayIn code creator b c) k
 unfolding built twoRows
-rows-alike a b c zero h = inl (refl, refl, refl)
-rows-alike a b c (suc zero) h = inr (refl, refl)
-rows-alike a b c (suc (suc k)) h = absurd (omega arith)
+rows-alike code creator a b c zero h = inl (refl, refl, refl)
+rows-alike code creator a b c (suc zero) h = inr (refl, refl)
+rows-alike code creator a b c (suc (suc k)) h = absurd (omega arith)
 
 -- They are alike to the agent, whatever the two actions are.
-pub ways-alike : (a b c : ℕ) → Alike (oneWay a c) (otherWay b c)
+pub ways-alike : (code creator a b c : ℕ) → Alike (oneWayIn code creator a c) (otherWayIn code creator b c)
 unfolding built twoRows
-ways-alike a b c =
+ways-alike code creator a b c =
     record {
       agent = refl;
       action = refl;
@@ -57,8 +59,15 @@ ways-alike a b c =
       steps = refl;
       premises = refl;
       rows = refl;
-      row = rows-alike a b c;
+      row = rows-alike code creator a b c;
     }
+
+-- With a good formula 5.
+abbrev pub oneWay : (action cited : ℕ) → List ℕ
+oneWay action cited = oneWayIn 0 1 action cited
+
+abbrev pub otherWay : (action cited : ℕ) → List ℕ
+otherWay action cited = otherWayIn 0 1 action cited
 
 unfoldable pub hiddenCases : List DeskCase
 hiddenCases =
@@ -78,17 +87,15 @@ pub hidden-rows-hidden : map computed hiddenCases ≡ map expected hiddenCases
 unfolding built twoRows hiddenCases
 hidden-rows-hidden = refl
 
--- The demand asks of neither pair more than it has: no refusal by 1, 2 or 5.
-pub made-if-refused-later : (s room : List ℕ) (m q : ℕ) → 5 < m → outcome s room .verdict ≡ refused m q → WellMade s room
-made-if-refused-later s room m q h v n p e among = go among
-  where
-    number : m ≡ n
-    number = cc
+-- The demand asks of no file here more than it has: no refusal by 1, 2 or 5.
+pub not-aside : (n : ℕ) → 2 < n → (n < 5) ⊎ (5 < n) → LeftAside n → ⊥
+not-aside n from other (inl i) = omega arith
+not-aside n from other (inr (inl i)) = omega arith
+not-aside n from (inl lt) (inr (inr i)) = omega arith
+not-aside n from (inr lt) (inr (inr i)) = omega arith
 
-    go : (n ≡ 1) ⊎ ((n ≡ 2) ⊎ (n ≡ 5)) → ⊥
-    go (inl i) = omega (arith, number)
-    go (inr (inl i)) = omega (arith, number)
-    go (inr (inr i)) = omega (arith, number)
+pub made-if-refused : (s room : List ℕ) (m q : ℕ) → 2 < m → (m < 5) ⊎ (5 < m) → outcome s room .verdict ≡ refused m q → WellMade s room
+made-if-refused s room m q from other v n p e aside = let number : n ≡ m = cc in not-aside m from other (rw number at aside)
 
 pub made-if-passed : (s room : List ℕ) (d r : ℕ) → outcome s room .verdict ≡ passed d r → WellMade s room
 made-if-passed s room d r v n p e among = let z : _≡_ {A = ℕ} 0 1 = cc in omega arith
@@ -96,16 +103,127 @@ made-if-passed s room d r v n p e among = let z : _≡_ {A = ℕ} 0 1 = cc in om
 pub ways-made : WellMade (oneWay 0 1) lent × WellMade (otherWay 4 1) lent × WellMade (oneWay 0 0) lent × WellMade (otherWay 4 0) lent
 unfolding built twoRows
 ways-made = (
-  made-if-refused-later (oneWay 0 1) lent 16 0 (omega arith) refl,
-  made-if-refused-later (otherWay 4 1) lent 16 0 (omega arith) refl,
+  made-if-refused (oneWay 0 1) lent 16 0 (omega arith) (inr (omega arith)) refl,
+  made-if-refused (otherWay 4 1) lent 16 0 (omega arith) (inr (omega arith)) refl,
   made-if-passed (oneWay 0 0) lent 0 1 refl,
   made-if-passed (otherWay 4 0) lent 0 1 refl,
 )
 
--- Were a refusal by 5 allowed on one side, the demand would be false: an unseen row whose action is no action is a fault of the file.
-pub five-shows-through : ((s t room : List ℕ) → Alike s t → WellMade t room → outcome s room ≡ outcome t room) → ⊥
+-- Two alike files whose book check 3 or 4 refuses, though check 5 would find fault with the unseen row of one: the demand speaks of these too.
+pub record AlikeRefused (s t : List ℕ) (number place : ℕ) : Type 0 where
+  pub one : outcome s lent .verdict ≡ refused number place
+  pub other : outcome t lent .verdict ≡ refused number place
+  pub alike : Alike s t
+  pub one-made : WellMade s lent
+  pub other-made : WellMade t lent
+
+faulty-book :
+    (code creator n : ℕ) → 2 < n → n < 5 → outcome (oneWayIn code creator 1 0) lent .verdict ≡ refused n 5 → outcome (otherWayIn code creator 4 0) lent .verdict ≡ refused n 5 →
+    AlikeRefused (oneWayIn code creator 1 0) (otherWayIn code creator 4 0) n 5
+faulty-book code creator n from to e f =
+    record {
+      one = e;
+      other = f;
+      alike = ways-alike code creator 1 4 0;
+      one-made = made-if-refused (oneWayIn code creator 1 0) lent n 5 from (inl to) e;
+      other-made = made-if-refused (otherWayIn code creator 4 0) lent n 5 from (inl to) f;
+    }
+
+-- Formula 5 has a code, and it repeats formula 0.
+pub alike-refused-by-3 : AlikeRefused (oneWayIn 1 0 1 0) (otherWayIn 1 0 4 0) 3 5
 unfolding built twoRows
-five-shows-through claim =
-    let e : refused 5 1 ≡ passed 0 1 = ap (λ o. o .verdict) (claim (oneWay 1 0) (otherWay 4 0) lent (ways-alike 1 4 0) (ways-made .3)) in
-    let z : _≡_ {A = ℕ} 0 1 = cc in
-    omega arith
+alike-refused-by-3 = faulty-book 1 0 3 (omega arith) (omega arith) refl refl
+
+pub alike-refused-by-4 : AlikeRefused (oneWayIn 0 0 1 0) (otherWayIn 0 0 4 0) 4 5
+unfolding built twoRows
+alike-refused-by-4 = faulty-book 0 0 4 (omega arith) (omega arith) refl refl
+
+-- What the demand leaves aside has to be left aside: alike files, one refused by the number, the other well made, with another verdict.
+pub record ShowsThrough (number : ℕ) : Type 0 where
+  pub one : List ℕ
+  pub other : List ℕ
+  pub place : ℕ
+  pub alike : Alike one other
+  pub refused-by : outcome one lent .verdict ≡ refused number place
+  pub other-made : WellMade other lent
+  pub differ : outcome one lent .verdict ≡ outcome other lent .verdict → ⊥
+
+-- A header whose parts are all empty, and the same cut short by one byte: no part has it, and it would be 0.
+unfoldable pub emptyParts : List ℕ
+emptyParts = laidOut 0 0 ([] ∷ [] ∷ [] ∷ [] ∷ [] ∷ [] ∷ [] ∷ [] ∷ [])
+
+pub one-shows-through : ShowsThrough 1
+unfolding built emptyParts
+one-shows-through =
+    record {
+      one = take 35 emptyParts;
+      other = emptyParts;
+      place = 0;
+      alike = record {
+        agent = refl;
+        action = refl;
+        formulas = refl;
+        conditions = refl;
+        obligations = refl;
+        labels = refl;
+        steps = refl;
+        premises = refl;
+        rows = refl;
+        row = λ k lt. absurd (omega arith);
+      };
+      refused-by = refl;
+      other-made = made-if-refused emptyParts lent 9 0 (omega arith) (inr (omega arith)) refl;
+      differ = λ e. let z : _≡_ {A = ℕ} 1 9 = cc in omega arith;
+    }
+
+-- No formulas, and one row that nobody is named for, or a byte that is half an observer.
+unfoldable pub observerBytes : List ℕ → List ℕ
+observerBytes bytes = laidOut 0 0 ([] ∷ words (absent ∷ 0 ∷ 0 ∷ []) ∷ bytes ∷ [] ∷ [] ∷ [] ∷ [] ∷ [] ∷ [])
+
+pub unnamed-alike : (k : ℕ) → k < 1 → RowAlike (observerBytes (7 ∷ [])) (observerBytes []) k
+unfolding built observerBytes
+unnamed-alike zero h = inr (refl, refl)
+unnamed-alike (suc k) h = absurd (omega arith)
+
+pub two-shows-through : ShowsThrough 2
+unfolding built observerBytes
+two-shows-through =
+    record {
+      one = observerBytes (7 ∷ []);
+      other = observerBytes [];
+      place = 2;
+      alike = record {
+        agent = refl;
+        action = refl;
+        formulas = refl;
+        conditions = refl;
+        obligations = refl;
+        labels = refl;
+        steps = refl;
+        premises = refl;
+        rows = refl;
+        row = unnamed-alike;
+      };
+      refused-by = refl;
+      other-made = made-if-refused (observerBytes []) lent 9 0 (omega arith) (inr (omega arith)) refl;
+      differ = λ e. let z : _≡_ {A = ℕ} 2 9 = cc in omega arith;
+    }
+
+-- An unseen row whose action is no action is a fault of the file.
+pub five-shows-through : ShowsThrough 5
+unfolding built twoRows
+five-shows-through =
+    record {
+      one = oneWay 1 0;
+      other = otherWay 4 0;
+      place = 1;
+      alike = ways-alike 0 1 1 4 0;
+      refused-by = refl;
+      other-made = ways-made .3;
+      differ = λ e. let z : _≡_ {A = ℕ} 0 1 = cc in omega arith;
+    }
+
+-- And the one file that is not answered as if it were struck: that row is mended by striking it out, and the struck file passes.
+pub struck-is-mended : Mended (oneWay 1 0) 1 × (outcome (oneWay 1 0) lent .verdict ≡ refused 5 1) × (outcome (strike (oneWay 1 0)) lent .verdict ≡ passed 0 1)
+unfolding built twoRows
+struck-is-mended = ((refl, refl), refl, refl)

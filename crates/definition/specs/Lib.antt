@@ -28,3 +28,4 @@ pub mod 54-Traps
 pub mod 55-HiddenRows
 pub mod 56-SeenRows
 pub mod 57-Texts
+pub mod 58-Table

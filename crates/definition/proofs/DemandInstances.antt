@@ -1,0 +1,122 @@
+-- The theorems of demands 1 and 2 on desk cases and examples of document 01's table, computed: their hypotheses can be met. Those of demand 3 are met in specs/55-HiddenRows.
+-- Assumes nothing.
+use Prim.Native.Nat.{ℕ, zero, suc, _<_}
+use mathlib.Core.Path.{_≡_, refl}
+use mathlib.Core.List.{List, [], _∷_}
+use native.Mathlib.Omega.{arith}
+use lib.ListN.{length}
+use Rattle.definition.proofs.CheckLaws.{all-hold}
+use Rattle.definition.proofs.CitedLists.{pass-lists}
+use Rattle.definition.proofs.NoneOwed.{none-owed-exactly}
+use Rattle.definition.proofs.PassesExactly.{passes-exactly, refused-for-room}
+use Rattle.definition.proofs.RefusalTable.{refused-by-table}
+use Rattle.definition.specs.04-Checks.{single, each, Holds, Fails, AllHold, here, later, accepts}
+use Rattle.definition.specs.13-Formulas.{Formula, each-use, once}
+use Rattle.definition.specs.17-Case.{caseOf}
+use Rattle.definition.specs.18-Admission.{admissionChecks, admission}
+use Rattle.definition.specs.22-Steps.{premisesOf, misshapen, badPremises, stepChecks, stateAt}
+use Rattle.definition.specs.31-Outcome.{lastStep, unusedStep, openLabel, owingChecks, finalState, refused, outcome}
+use Rattle.definition.specs.42-Account.{Owes}
+use Rattle.definition.specs.44-Demands.{StepsHold, InTable, in-step, in-end, Passes, Justified, Needs, Lists}
+use Rattle.definition.specs.51-Files.{createsRow}
+use Rattle.definition.specs.53-Desk.{lent, grantWith, grant, visit, twice, built}
+use Rattle.definition.specs.58-Table.{grantByte, grantAnd, laterPremise, supposedOwed, builtTable}
+
+-- Demand 1: what a refusal by 2, 4, 13, 17, 21 and 23 says.
+pub part-told : InTable (grantByte 4 35) 3 2 0
+unfolding builtTable
+part-told = refused-by-table (grantByte 4 35) lent 2 0 .0 refl
+
+pub repeat-told : InTable (grantAnd (createsRow 0 16384 ∷ []) (0 ∷ []) [] [] []) 3 4 5
+unfolding builtTable
+repeat-told = refused-by-table (grantAnd (createsRow 0 16384 ∷ []) (0 ∷ []) [] [] []) lent 4 5 .0 refl
+
+pub premise-told : InTable laterPremise 3 13 1
+unfolding builtTable
+premise-told = refused-by-table laterPremise lent 13 1 .0 refl
+
+pub second-use-told : InTable (twice each-use (each-use ∷ 0 ∷ []) 0) 3 17 5
+unfolding built
+second-use-told = refused-by-table (twice each-use (each-use ∷ 0 ∷ []) 0) lent 17 5 .0 refl
+
+pub open-label-told : InTable supposedOwed 3 21 0
+unfolding builtTable
+open-label-told = refused-by-table supposedOwed lent 21 0 .0 refl
+
+pub short-room-told : InTable grant 0 23 1
+unfolding built
+short-room-told = refused-by-table grant [] 23 1 .0 refl
+
+-- The other way: checks 1 to 11 and all of step 0 hold, at step 1 check 12 holds and 13 fails; so 13 is told, with step 1.
+pub premise-fails : InTable laterPremise 3 13 1
+unfolding builtTable
+premise-fails =
+    let c = caseOf laterPremise in
+    let first : AllHold (stepChecks c 0 (stateAt c 0)) = all-hold (stepChecks c 0 (stateAt c 0)) refl in
+    let shape : Holds (single 12 1 (misshapen c 1)) = refl in
+    let fails : Fails (single 13 1 (badPremises (stateAt c 1 .used) 1 (premisesOf c 1))) 13 1 = (refl, refl, refl) in
+    in-step {k = 1} (all-hold (admissionChecks laterPremise) refl) (all-hold (owingChecks c) refl) (omega arith) (only-first first) (later shape (here fails))
+  where
+    only-first : AllHold (stepChecks (caseOf laterPremise) 0 (stateAt (caseOf laterPremise) 0)) → StepsHold (caseOf laterPremise) 1
+    only-first h zero lt = h
+    only-first h (suc j) lt = absurd (omega arith)
+
+pub premise-refused : outcome laterPremise lent .verdict ≡ refused 13 1
+premise-refused = refused-by-table laterPremise lent 13 1 .1 premise-fails
+
+-- And of the end: all checks of the one step hold, 20 holds and 21 fails at label 0.
+pub label-fails : InTable supposedOwed 3 21 0
+unfolding builtTable
+label-fails =
+    let c = caseOf supposedOwed in
+    let used : Holds (each 20 (lastStep c) (unusedStep (finalState c))) = λ k lt. absurd (omega arith) in
+    let fails : Fails (each 21 (c .labels) (openLabel c (finalState c))) 21 0 = (refl, (omega arith, refl, λ q lt. absurd (omega arith))) in
+    in-end (all-hold (admissionChecks supposedOwed) refl) (all-hold (owingChecks c) refl) (omega arith) (only-step (all-hold (stepChecks c 0 (stateAt c 0)) refl)) (later used (here fails))
+  where
+    only-step : AllHold (stepChecks (caseOf supposedOwed) 0 (stateAt (caseOf supposedOwed) 0)) → StepsHold (caseOf supposedOwed) (caseOf supposedOwed .steps)
+    only-step h zero lt = h
+    only-step h (suc j) lt = absurd (omega arith)
+
+pub label-refused : outcome supposedOwed lent .verdict ≡ refused 21 0
+label-refused = refused-by-table supposedOwed lent 21 0 .1 label-fails
+
+-- Demand 2: the desk's passes are justified.
+pub grant-justified : Justified grant
+unfolding built
+grant-justified = passes-exactly grant lent .0 (0, 1, refl) .0
+
+pub visit-justified : Justified (visit (0 ∷ []))
+unfolding built
+visit-justified = passes-exactly (visit (0 ∷ [])) lent .0 (0, 1, refl) .0
+
+pub one-duty-justified : Justified (twice once (once ∷ 0 ∷ []) 0)
+unfolding built
+one-duty-justified = passes-exactly (twice once (once ∷ 0 ∷ []) 0) lent .0 (1, 1, refl) .0
+
+-- Twice with two obligations needs three entries. It passes in a room of just so many, and in one that is an entry short it is refused by 23 with that number.
+abbrev twoDuties : List ℕ
+twoDuties = twice each-use (each-use ∷ 0 ∷ each-use ∷ 0 ∷ []) 1
+
+pub two-duties-short : Justified twoDuties × Needs (caseOf twoDuties) 3 × (2 < 3)
+unfolding built
+two-duties-short = refused-for-room twoDuties (901 ∷ 902 ∷ []) 3 .0 refl
+
+pub two-duties-fit : Passes twoDuties lent
+two-duties-fit = passes-exactly twoDuties lent .1 (two-duties-short .0, 3, two-duties-short .1, omega arith)
+
+-- Without computing: in every shorter room.
+pub two-duties-refused : (room : List ℕ) → length room < 3 → outcome twoDuties room .verdict ≡ refused 23 3
+two-duties-refused room short = refused-for-room twoDuties room 3 .1 (two-duties-short .0, two-duties-short .1, short)
+
+-- What it writes: both obligations and the row.
+pub two-duties-lists : Lists twoDuties lent 2 1
+unfolding built
+two-duties-lists = pass-lists twoDuties lent 2 1 refl
+
+-- Creator owes nothing: it is admitted, and has no steps.
+abbrev creator : List ℕ
+creator = grantWith 0 0 0 0 [] []
+
+pub creator-owes-nothing : (admission creator ≡ accepts tt) × (caseOf creator .steps ≡ 0) × ((f : Formula) → Owes (caseOf creator .agent) (caseOf creator .action) f → ⊥)
+unfolding built
+creator-owes-nothing = none-owed-exactly creator lent .0 refl
