@@ -2,9 +2,12 @@
 //! with `cc`, and document 01's program. And the C header by itself.
 
 use std::fs::{self, File};
-use std::io::Seek;
+use std::io::{Seek, Write};
+use std::iter::once;
+use std::os::fd::OwnedFd;
+use std::os::unix::net::{UnixDatagram, UnixStream};
 use std::path::{Path, PathBuf};
-use std::process::{Command, Output};
+use std::process::{Child, Command, Output, Stdio};
 
 use conformance::checker::{Verdict, MOST_BYTES};
 use conformance::desk::words::words;
@@ -107,6 +110,16 @@ fn console_words() {
     says(&example("supposed"), "Label 0: it is still open at the end.");
 }
 
+/// Runs a program over a file that is longer than any case, and tells how many bytes it has read.
+fn run_on_long_file(program: &Path, test: &str) -> (Output, u64) {
+    let long = scratch(&format!("long-{test}.case"));
+    fs::write(&long, vec![0; 2 * MOST_BYTES]).expect("the file is written");
+    let mut file = File::open(&long).expect("the file is there");
+    let input = file.try_clone().expect("the file is shared");
+    let output = Command::new(program).stdin(input).output().expect("the program starts");
+    (output, file.stream_position().expect("it has a position"))
+}
+
 /// Trouble is told apart from every verdict, and no byte is read that is not needed.
 #[test]
 fn console_trouble() {
@@ -119,18 +132,21 @@ fn console_trouble() {
     assert_eq!(run(&["one", "two"]), Some(3));
     assert_eq!(run(&["no such file"]), Some(3));
     assert_eq!(run(&["/"]), Some(3));
-    let long = scratch("long.case");
-    fs::write(&long, vec![0; 2 * MOST_BYTES]).expect("the file is written");
-    let mut file = File::open(&long).expect("the file is there");
-    let input = file.try_clone().expect("the file is shared");
-    let output = Command::new(&console).stdin(input).output().expect("the console starts");
+    let (output, bytes) = run_on_long_file(&console, "console");
     assert_eq!(output.status.code(), Some(2));
-    assert_eq!(file.stream_position().expect("it has a position"), MOST_BYTES as u64 + 1);
+    assert_eq!(bytes, MOST_BYTES as u64 + 1);
+}
+
+fn check_case() -> PathBuf {
+    project("target/bin/check_case")
+}
+
+fn printed(output: Output) -> String {
+    String::from_utf8(output.stdout).expect("it prints plain text")
 }
 
 fn program(input: &[u8]) -> String {
-    let output = run(&project("target/bin/check_case"), input);
-    String::from_utf8(output.stdout).expect("it prints plain text")
+    printed(run(&check_case(), input))
 }
 
 #[test]
@@ -150,13 +166,114 @@ fn program_on_lengths() {
     for length in [MOST_BYTES + 1, MOST_BYTES + 2, 65_536, 200_000] {
         assert_eq!(program(&vec![0; length]), "case 47653\nrefused 1 0\n");
     }
+    let (output, bytes) = run_on_long_file(&check_case(), "program");
+    assert_eq!((printed(output).as_str(), bytes), ("case 47653\nrefused 1 0\n", 47_653));
+}
+
+/// The full-size file, and what the program prints of it.
+fn full_size() -> (Vec<u8>, String) {
+    let duties = (0..64).map(|number| format!("duty {number}\n"));
+    let rows = (0..1_024).map(|number| format!("row {number}\n"));
+    let listed: String = duties.chain(rows).collect();
+    let file = conformance::full_size::full_size().to_bytes();
+    (file, format!("case 47650\npassed 64 1024\n{listed}"))
 }
 
 #[test]
 fn program_on_a_full_size_file() {
-    let file = conformance::full_size::full_size().to_bytes();
-    let duties = (0..64).map(|number| format!("duty {number}\n"));
-    let rows = (0..1_024).map(|number| format!("row {number}\n"));
-    let listed: String = duties.chain(rows).collect();
-    assert_eq!(program(&file), format!("case 47650\npassed 64 1024\n{listed}"));
+    let (file, text) = full_size();
+    assert_eq!(program(&file), text);
+}
+
+/// Starts a program over this standard input, of which nobody else keeps a copy.
+fn start(program: &Path, input: impl Into<Stdio>) -> Child {
+    let mut command = Command::new(program);
+    let piped = command.stdin(input).stdout(Stdio::piped()).stderr(Stdio::piped());
+    piped.spawn().expect("the program starts")
+}
+
+/// Runs a program over an input that comes in these pieces, each to a read of its own: a read from
+/// a socket of datagrams gives one of them, and of an empty one no byte, which is the end.
+fn run_on_pieces(program: &Path, pieces: &[&[u8]]) -> Output {
+    let (ours, theirs) = UnixDatagram::pair().expect("there are sockets");
+    let child = start(program, OwnedFd::from(theirs));
+    // It may stop reading before the end.
+    let _ = pieces.iter().chain([&&[][..]]).try_for_each(|piece| ours.send(piece).map(|_| ()));
+    child.wait_with_output().expect("the program ends")
+}
+
+/// Ways to cut an input: single bytes, pieces of several sizes, and one with the last byte alone.
+/// No piece is longer than what the program reads at once, since a datagram's rest would be lost.
+fn cuts(input: &[u8]) -> Vec<Vec<&[u8]>> {
+    let (front, last) = input.split_at(input.len() - 1);
+    let sizes = [1, 2, 7, 105, 4_096];
+    let even = sizes.map(|size| input.chunks(size).collect());
+    even.into_iter().chain(once(front.chunks(4_096).chain([last]).collect())).collect()
+}
+
+#[test]
+fn programs_on_pieces_of_examples() {
+    let console = console("pieces");
+    for example in all() {
+        for pieces in cuts(&example.file) {
+            let text = printed(run_on_pieces(&check_case(), &pieces));
+            assert_eq!(text, output(&example), "{}", example.name);
+            assert_console_says(&run_on_pieces(&console, &pieces), &example);
+        }
+    }
+}
+
+#[test]
+fn program_on_pieces_of_long_inputs() {
+    let (file, text) = full_size();
+    for pieces in cuts(&file) {
+        assert_eq!(printed(run_on_pieces(&check_case(), &pieces)), text);
+    }
+    let longest = vec![0; MOST_BYTES];
+    for pieces in cuts(&longest) {
+        let text = printed(run_on_pieces(&check_case(), &pieces));
+        assert_eq!(text, "case 47652\nrefused 2 0\n");
+    }
+    for length in [MOST_BYTES + 1, MOST_BYTES + 2, 65_536] {
+        for pieces in cuts(&vec![0; length]) {
+            let text = printed(run_on_pieces(&check_case(), &pieces));
+            assert_eq!(text, "case 47653\nrefused 1 0\n");
+        }
+    }
+}
+
+/// Runs a program over an input behind which a read fails: what the program's side has sent, and
+/// nobody has read, makes of the other side's end an error.
+fn run_until_error(program: &Path, input: &[u8]) -> Output {
+    let (mut ours, mut theirs) = UnixStream::pair().expect("there are sockets");
+    theirs.write_all(&[0]).expect("the socket takes a byte");
+    let child = start(program, OwnedFd::from(theirs));
+    ours.write_all(input).expect("the socket takes the input");
+    drop(ours);
+    child.wait_with_output().expect("the program ends")
+}
+
+/// What cannot be read whole is not judged; what lies behind the last byte that is read does not
+/// matter.
+#[test]
+fn programs_on_read_errors() {
+    let console = console("errors");
+    let longest = vec![0; MOST_BYTES];
+    let (file, _) = full_size();
+    let cases = all().into_iter().map(|example| example.file);
+    for input in cases.chain([vec![], longest, file]) {
+        let output = run_until_error(&check_case(), &input);
+        assert_eq!(output.stderr, b"check_case: cannot read standard input\n");
+        assert!(output.stdout.is_empty());
+        let output = run_until_error(&console, &input);
+        assert_eq!(output.status.code(), Some(3));
+        assert!(output.stdout.is_empty() && !output.stderr.is_empty());
+    }
+    let on_a_folder = start(&check_case(), File::open("/").expect("it is there"));
+    let output = on_a_folder.wait_with_output().expect("the program ends");
+    assert!(output.stdout.is_empty() && !output.stderr.is_empty());
+    let longer = vec![0; MOST_BYTES + 1];
+    let text = printed(run_until_error(&check_case(), &longer));
+    assert_eq!(text, "case 47653\nrefused 1 0\n");
+    assert_eq!(run_until_error(&console, &longer).status.code(), Some(2));
 }

@@ -2,5 +2,6 @@
 pub mod WrittenText
 pub mod Numerals
 pub mod Lines
-pub mod ReadBytes
+pub mod Readings
+pub mod Telling
 pub mod Lengths

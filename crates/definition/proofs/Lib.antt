@@ -32,6 +32,7 @@ pub mod PassesExactly
 pub mod NoneOwed
 pub mod RoomLaws
 pub mod TextLaws
+pub mod ReadingLaws
 pub mod UnseenRows
 pub mod PromiseLaws
 pub mod DemandsProved

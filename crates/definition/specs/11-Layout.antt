@@ -1,5 +1,6 @@
 -- The layout of a case file: header and parts, and checks 1 and 2. The numbers of the layout stand here, but for the places of the fields within a record, which are in 14-Book and 15-Records.
-use Prim.Native.Nat.{ℕ, _+_, _*_, _-_, _/_, _%_}
+use Prim.Native.Nat.{ℕ, zero, suc, _+_, _*_, _-_, _/_, _%_}
+use mathlib.Core.Path.{_≡_, refl}
 use mathlib.Core.Bool.{Bool, cond, not, _&&_, _||_}
 use mathlib.Core.List.{List, [], _∷_}
 use lib.ListN.{length, getD, take, drop}
@@ -51,6 +52,16 @@ recordBytes p = getD (rowBytes ∷ 6 ∷ 2 ∷ 2 ∷ 4 ∷ 4 ∷ 10 ∷ 2 ∷ []
 -- Each part's "most records".
 unfoldable pub mostRecords : ℕ → ℕ
 mostRecords p = getD (1024 ∷ 1024 ∷ 4096 ∷ 64 ∷ 64 ∷ 32 ∷ 2048 ∷ 2048 ∷ []) p 0
+
+-- The bytes of the first so many parts where each has its most records.
+unfoldable pub fullParts : ℕ → ℕ
+fullParts zero = 0
+fullParts (suc p) = fullParts p + mostRecords p * recordBytes p
+
+-- The longest file has its header and eight such parts.
+pub longest-file : mostBytes ≡ headerBytes + fullParts 8
+unfolding fullParts mostRecords recordBytes
+longest-file = refl
 
 unfoldable pub agentOf : List ℕ → ℕ
 agentOf s = word s 0
@@ -122,5 +133,5 @@ layoutChecks s =
 
 -- What an evaluation unfolds of this file.
 unfoldable pub evaluatedLayout : Unit {0}
-unfolding recordBytes mostRecords agentOf actionOf offset size end count part held field dueOffset badLength orphans isMisplaced faultyPart layoutChecks
+unfolding recordBytes mostRecords fullParts agentOf actionOf offset size end count part held field dueOffset badLength orphans isMisplaced faultyPart layoutChecks
 evaluatedLayout = tt

@@ -16,6 +16,7 @@ pub mod 22-Steps
 pub mod 31-Outcome
 pub mod 32-Numbers
 pub mod 33-Text
+pub mod 34-Program
 pub mod 41-Occurrences
 pub mod 42-Account
 pub mod 43-Alike

@@ -1,43 +1,32 @@
--- `main` is safe and ends: what was read is a part of the buffer, and what is written a part of the text. Assumes nothing.
-use mathlib.Core.Path.{sym, subst}
-use native.Mathlib.Omega.{arith}
-use lib.ListN.{length-take}
-use lib.Seq.{length-take-le}
-use Rattle.check_case.specs.Input.{Held}
+-- `main` is safe and ends: the buffer has the length that reading asks for, and what is written is a part of the text. Assumes nothing.
+use Rattle.check_case.proofs.Telling.{text-counts}
 use borrow.Author.Needs.{needs}
 use Rattle.check_case.proofs.main.Statement.{statement}
 use Rattle.check_case.proofs.main.Tie as tie
 
-slice-aggregate-read-case : tie.Need-slice-aggregate-read-case
-slice-aggregate-read-case c = search needs
+buffer-requires : tie.Need-buffer-requires
+buffer-requires c κs = search needs
 
-read-case-requires : tie.Need-read-case-requires
-read-case-requires c κs = search needs
+slice-aggregate-judge-input : tie.Need-slice-aggregate-judge-input
+slice-aggregate-judge-input c = search needs
 
-enum-known-count : tie.Need-enum-known-count
-enum-known-count c = search needs
+slice-aggregate-judge-input-2 : tie.Need-slice-aggregate-judge-input-2
+slice-aggregate-judge-input-2 c = search needs
 
-array-share-prefix-case : tie.Need-array-share-prefix-case
-array-share-prefix-case c =
-    subst (λ r. Held r (c .before .before .before .before .read-case .last .0)) (c .before .count .given .1) (c .before .before .before .before .read-case .ensures)
+slice-aggregate-judge-input-3 : tie.Need-slice-aggregate-judge-input-3
+slice-aggregate-judge-input-3 c = search needs
 
-slice-aggregate-answer : tie.Need-slice-aggregate-answer
-slice-aggregate-answer c =
-    sym (length-take-le (c .before .before .count .given .0 .0) (c .before .before .before .before .before .read-case .last .0)
-    (subst (λ r. Held r (c .before .before .before .before .before .read-case .last .0)) (c .before .before .count .given .1) (c .before .before .before .before .before .read-case .ensures)))
+judge-input-requires : tie.Need-judge-input-requires
+judge-input-requires c κs = search needs
 
-slice-aggregate-answer-2 : tie.Need-slice-aggregate-answer-2
-slice-aggregate-answer-2 c = search needs
-
-answer-requires : tie.Need-answer-requires
-answer-requires c κs =
-    (simp length-take (omega (arith, c .before .before .before .before .before .before .read-case .kept .0)), omega arith)
+enum-known-end : tie.Need-enum-known-end
+enum-known-end c = search needs
 
 array-share-prefix-text : tie.Need-array-share-prefix-text
-array-share-prefix-text c = search needs
+array-share-prefix-text c = text-counts (c .before .before .before .before .before .before .judge-input .ensures) (c .before .end .given .1) .0
 
 slice-aggregate-write-all : tie.Need-slice-aggregate-write-all
-slice-aggregate-write-all c = search needs
+slice-aggregate-write-all c = text-counts (c .before .before .before .before .before .before .before .judge-input .ensures) (c .before .before .end .given .1) .1
 
 write-all-requires : tie.Need-write-all-requires
 write-all-requires c κs = search needs
@@ -70,13 +59,12 @@ pub main-spec : {M : Type 1} → statement M
 main-spec =
     tie.close
     (tie.spec
-    slice-aggregate-read-case
-    read-case-requires
-    enum-known-count
-    array-share-prefix-case
-    slice-aggregate-answer
-    slice-aggregate-answer-2
-    answer-requires
+    buffer-requires
+    slice-aggregate-judge-input
+    slice-aggregate-judge-input-2
+    slice-aggregate-judge-input-3
+    judge-input-requires
+    enum-known-end
     array-share-prefix-text
     slice-aggregate-write-all
     write-all-requires

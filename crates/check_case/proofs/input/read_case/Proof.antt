@@ -1,94 +1,76 @@
--- `read_case` is safe and ends: each turn of the loop reads a byte or returns, so that less of the buffer is left. Assumes nothing.
-use Prim.Native.Nat.{_≤_, _-_}
-use mathlib.Core.Path.{_≡_, _∙_, subst}
+-- `read_case` meets its contract. The loop's invariant: the pieces so far have not ended the reading, and the buffer has their bytes. The measure is what is left of the buffer: each turn stores a byte or returns. Assumes nothing.
+use Prim.Native.Nat.{_-_}
+use mathlib.Core.Path.{_≡_}
+use mathlib.Core.List.{List, []}
 use native.Mathlib.Omega.{arith}
-use borrow.Author.Needs.{needs}
 use lib.ListN.{length}
-use Rattle.check_case.specs.Input.{Held}
-use Rattle.check_case.proofs.ReadBytes.{as-long, rest-is}
+use Rattle.check_case.proofs.Readings.{taken-as, SoFar, none-yet, and-more, and-ended, more-done}
+use borrow.Author.Needs.{needs}
 use Rattle.check_case.proofs.input.read_case.Statement.{statement}
 use Rattle.check_case.proofs.input.read_case.Tie as tie
 
 abbrev Inv-loop : tie.InvT-loop
-Inv-loop buffer₀ done₀ buffer done = (done ≤ length buffer) × (length buffer ≡ length buffer₀)
+Inv-loop got₀ piece₀ buffer₀ done₀ got piece buffer done = (length piece ≡ length piece₀) × (length buffer ≡ length buffer₀) × (pieces : List (List _)) × SoFar pieces buffer₀ buffer done
 
 abbrev μ-loop : tie.MeasureT-loop
-μ-loop buffer₀ done₀ buffer done = length buffer - done
+μ-loop got₀ piece₀ buffer₀ done₀ got piece buffer done = length buffer₀ - done
 
--- src/input.rt:27:5
 loop-holds : tie.Need-loop-holds Inv-loop μ-loop
-loop-holds c = search needs
+loop-holds c = (search needs, search needs, [], none-yet _ (omega arith))
 
--- src/input.rt:28:25
-sub-read-some : tie.Need-sub-read-some Inv-loop μ-loop
-sub-read-some c = search needs
+read-on-requires : tie.Need-read-on-requires Inv-loop μ-loop
+read-on-requires c κs = (omega arith, c .before .before .before .loop .inv .3 .within)
 
--- src/input.rt:28:25
-part-read-some-start : tie.Need-part-read-some-start Inv-loop μ-loop
-part-read-some-start c = search needs
+enum-known-count : tie.Need-enum-known-count Inv-loop μ-loop
+enum-known-count c = search needs
 
--- src/input.rt:28:25
-part-read-some-end : tie.Need-part-read-some-end Inv-loop μ-loop
-part-read-some-end c = search needs
+loop-less : tie.Need-loop-less Inv-loop μ-loop
+loop-less c =
+    let l = c .before .before .before .before .before .before .before .before .before .before .before .loop in
+    let r = c .before .before .before .before .before .before .before .read-on in
+    let t = taken-as (c .before .count .given .1) (r .ensures) in
+    let within = l .inv .3 .within in
+    omega (arith, more-done (omega (arith, within)) t)
 
--- src/input.rt:28:15
-read-some-requires : tie.Need-read-some-requires Inv-loop μ-loop
-read-some-requires c κs = search needs
+loop-again : tie.Need-loop-again Inv-loop μ-loop
+loop-again c =
+    let l = c .before .before .before .before .before .before .before .before .before .before .before .loop in
+    let r = c .before .before .before .before .before .before .before .read-on in
+    let t = taken-as (c .before .count .given .1) (r .ensures) in
+    let more = and-more (l .inv .3) t in
+    (omega (arith, r .kept .1 .1 .0), omega (arith, r .kept .1 .1 .1 .0), more .0, more .1)
 
--- src/input.rt:29:25
-enum-known-more : tie.Need-enum-known-more Inv-loop μ-loop
-enum-known-more c = search needs
+enum-known-count-2 : tie.Need-enum-known-count-2 Inv-loop μ-loop
+enum-known-count-2 c = search needs
 
--- src/input.rt:31:21
 same-length : tie.Need-same-length Inv-loop μ-loop
 same-length c = search needs
 
--- src/input.rt:31:21
-returns : tie.Need-returns Inv-loop μ-loop
-returns c = search needs
-
--- src/input.rt:33:17
-add-done : tie.Need-add-done Inv-loop μ-loop
-add-done c =
-    let l = c .before .before .before .before .before .before .before .before .before .loop in
-    let s = c .before .before .before .before .before .before .read-some in
-    let m = c .before .before .more .given in
-    let within : m .0 .0 ≤ length (s .last .0) = subst (λ r. Held r (s .last .0)) (m .1) (s .ensures) in
-    omega (arith, within, rest-is (l .buffer) (s .last .0) (l .done) (s .kept .0))
-
--- src/input.rt:27:5
-loop-less : tie.Need-loop-less Inv-loop μ-loop
-loop-less c = search needs
-
--- src/input.rt:27:5
-loop-again : tie.Need-loop-again Inv-loop μ-loop
-loop-again c =
-    let l = c .before .before .before .before .before .before .before .before .before .loop in
-    let s = c .before .before .before .before .before .before .read-some in
-    let m = c .before .before .more .given in
-    let within : m .0 .0 ≤ length (s .last .0) = subst (λ r. Held r (s .last .0)) (m .1) (s .ensures) in
-    let long = as-long (l .buffer) (s .last .0) (l .done) (s .kept .0) in
-    (omega (arith, within, long, rest-is (l .buffer) (s .last .0) (l .done) (s .kept .0)), long ∙ l .inv .1)
-
--- src/input.rt:36:17
-enum-told : tie.Need-enum-told Inv-loop μ-loop
-enum-told c = search needs
-
--- src/input.rt:36:17
 same-length-2 : tie.Need-same-length-2 Inv-loop μ-loop
 same-length-2 c = search needs
 
--- src/input.rt:36:17
-returns-2 : tie.Need-returns-2 Inv-loop μ-loop
-returns-2 c = search needs
+returns : tie.Need-returns Inv-loop μ-loop
+returns c =
+    let l = c .before .before .before .before .before .before .before .before .before .before .before .loop in
+    let r = c .before .before .before .before .before .before .before .read-on in
+    let t = taken-as (c .before .count2 .given .1) (r .ensures) in
+    and-ended (l .inv .3) t tt
 
--- src/input.rt:23:1
+enum-told : tie.Need-enum-told Inv-loop μ-loop
+enum-told c = search needs
+
 same-length-3 : tie.Need-same-length-3 Inv-loop μ-loop
 same-length-3 c = search needs
 
--- src/input.rt:23:1
-returns-3 : tie.Need-returns-3 Inv-loop μ-loop
-returns-3 c = search needs
+same-length-4 : tie.Need-same-length-4 Inv-loop μ-loop
+same-length-4 c = search needs
+
+returns-2 : tie.Need-returns-2 Inv-loop μ-loop
+returns-2 c =
+    let l = c .before .before .before .before .before .before .before .before .before .before .loop in
+    let r = c .before .before .before .before .before .before .read-on in
+    let t = taken-as (c .enum-told .given .1) (r .ensures) in
+    and-ended (l .inv .3) t tt
 
 pub read-case-spec : {M : Type 1} → statement M
 read-case-spec =
@@ -97,18 +79,15 @@ read-case-spec =
     Inv-loop
     μ-loop
     loop-holds
-    sub-read-some
-    part-read-some-start
-    part-read-some-end
-    read-some-requires
-    enum-known-more
-    same-length
-    returns
-    add-done
+    read-on-requires
+    enum-known-count
     loop-less
     loop-again
-    enum-told
+    enum-known-count-2
+    same-length
     same-length-2
-    returns-2
+    returns
+    enum-told
     same-length-3
-    returns-3)
+    same-length-4
+    returns-2)
