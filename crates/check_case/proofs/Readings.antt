@@ -11,7 +11,8 @@ use lib.Signed.{ltZ}
 use lib.Dec.{T, ltb}
 use borrow.Author.Tests.{ltb-true, ltb-false}
 use Rattle.io.specs.Counts.{clamped}
-use Rattle.definition.specs.34-Program.{Answer, gives, error, so-far, whole, readOn, readAll, joined, NoneEmpty}
+use Rattle.definition.specs.03-Lists.{joinAll}
+use Rattle.definition.specs.34-Program.{Answer, gives, error, so-far, whole, readOn, readAll, NoneEmpty}
 use Rattle.definition.proofs.ReadingLaws.{one-more, filled-more, filled-whole, given-on, more-given}
 use Rattle.check_case.specs.Input.{readingMeant, answerMeant, answerWithin, given, Taken, Ended, ReadFrom}
 use Rattle.check_case.specs.Written.{Written}
@@ -84,11 +85,11 @@ module _ (before after bytes : List ℕ) (done end : ℕ) (w : Written before do
 
   taken-full : 0 < length bytes → length after ≤ end → Taken done (gives bytes) before after (Whole end)
   taken-full some full =
-      let joined = take done before ++ bytes in
+      let joinAll = take done before ++ bytes in
       record {
         reading =
-            ap whole (joined-is ∙ sym (take-all (length before) joined (omega (arith, joined-length, w .ends, fits))))
-            ∙ sym (filled-whole (length before) joined (omega (arith, joined-length, kept w, full)))
+            ap whole (joined-is ∙ sym (take-all (length before) joinAll (omega (arith, joined-length, w .ends, fits))))
+            ∙ sym (filled-whole (length before) joinAll (omega (arith, joined-length, kept w, full)))
             ∙ sym (given-on (length before) (take done before) bytes some);
         held = omega (arith, w .ends, fits, kept w);
         buffer = w .is;
@@ -132,10 +133,10 @@ more-counted {done} {count} {answer} {before} {after} h t = go (more-given (leng
 pub more-done : {done count : ℕ} {answer : Answer} {before after : List ℕ} → done ≤ length before → Taken done answer before after (More count) → done < count
 more-done h t = let m = more-counted h t in omega (arith, m .2, m .3)
 
-joined-snoc : (pieces : List (List ℕ)) (piece : List ℕ) → joined (pieces ++ piece ∷ []) ≡ joined pieces ++ piece
-unfolding joined
+joined-snoc : (pieces : List (List ℕ)) (piece : List ℕ) → joinAll (pieces ++ piece ∷ []) ≡ joinAll pieces ++ piece
+unfolding joinAll
 joined-snoc [] piece = append-nil piece
-joined-snoc (first ∷ pieces) piece = ap (λ (l : List ℕ). first ++ l) (joined-snoc pieces piece) ∙ sym (append-assoc first (joined pieces) piece)
+joined-snoc (first ∷ pieces) piece = ap (λ (l : List ℕ). first ++ l) (joined-snoc pieces piece) ∙ sym (append-assoc first (joinAll pieces) piece)
 
 gives-snoc : (pieces : List (List ℕ)) (piece : List ℕ) → map gives (pieces ++ piece ∷ []) ≡ map gives pieces ++ gives piece ∷ []
 gives-snoc [] piece = refl
@@ -149,17 +150,17 @@ none-empty-snoc (first ∷ pieces) piece n h = (n .0, none-empty-snoc pieces pie
 pub record SoFar (pieces : List (List ℕ)) (before buffer : List ℕ) (done : ℕ) : Type 0 where
   pub none-empty : NoneEmpty pieces
   pub within : done < length buffer
-  pub counted : done ≡ length (joined pieces)
+  pub counted : done ≡ length (joinAll pieces)
   pub reading : readAll (length before) (so-far []) (map gives pieces) ≡ so-far (take done buffer)
-  pub stored : buffer ≡ sets before 0 (joined pieces)
+  pub stored : buffer ≡ sets before 0 (joinAll pieces)
 
 pub none-yet : (buffer : List ℕ) → 0 < length buffer → SoFar [] buffer buffer 0
-unfolding readAll joined
+unfolding readAll joinAll
 none-yet buffer h = record { none-empty = tt; within = h; counted = refl; reading = refl; stored = refl }
 
 module _ {pieces : List (List ℕ)} {before buffer after : List ℕ} {done : ℕ} {answer : Answer} {r : Reading} (s : SoFar pieces before buffer done) (t : Taken done answer buffer after r) where
   as-long : length buffer ≡ length before
-  as-long = ap length (s .stored) ∙ length-sets before 0 (joined pieces)
+  as-long = ap length (s .stored) ∙ length-sets before 0 (joinAll pieces)
 
   on : readingMeant r after ≡ readAll (length before) (so-far []) (map gives pieces ++ answer ∷ [])
   on =
@@ -168,12 +169,12 @@ module _ {pieces : List (List ℕ)} {before buffer after : List ℕ} {done : ℕ
       ∙ ap (λ x. readOn (length before) x answer) (sym (s .reading))
       ∙ sym (one-more (length before) (so-far []) (map gives pieces) answer)
 
-  stored-on : after ≡ sets before 0 (joined pieces ++ given answer)
+  stored-on : after ≡ sets before 0 (joinAll pieces ++ given answer)
   stored-on =
       t .buffer
       ∙ ap (λ (l : List ℕ). sets l done (given answer)) (s .stored)
-      ∙ ap (λ (k : ℕ). sets (sets before 0 (joined pieces)) k (given answer)) (s .counted ∙ omega arith)
-      ∙ sym (sets-append before 0 (joined pieces) (given answer))
+      ∙ ap (λ (k : ℕ). sets (sets before 0 (joinAll pieces)) k (given answer)) (s .counted ∙ omega arith)
+      ∙ sym (sets-append before 0 (joinAll pieces) (given answer))
 
 -- One piece more.
 pub and-more :
@@ -187,9 +188,9 @@ and-more {pieces} {before} {buffer} {after} {done} {count} {answer} s t = go (mo
       record {
         none-empty = none-empty-snoc pieces piece (s .none-empty) some;
         within = t .held;
-        counted = long ∙ ap (λ (k : ℕ). k + length piece) (s .counted) ∙ sym (ap length (joined-snoc pieces piece) ∙ length-append (joined pieces) piece);
+        counted = long ∙ ap (λ (k : ℕ). k + length piece) (s .counted) ∙ sym (ap length (joined-snoc pieces piece) ∙ length-append (joinAll pieces) piece);
         reading = ap (readAll (length before) (so-far [])) (gives-snoc pieces piece ∙ ap (λ (a : Answer). map gives pieces ++ a ∷ []) (sym is)) ∙ sym (on s t);
-        stored = stored-on s t ∙ ap (sets before 0) (ap (λ (a : Answer). joined pieces ++ given a) is ∙ sym (joined-snoc pieces piece));
+        stored = stored-on s t ∙ ap (sets before 0) (ap (λ (a : Answer). joinAll pieces ++ given a) is ∙ sym (joined-snoc pieces piece));
       },
     )
 
@@ -199,7 +200,7 @@ pub and-ended :
     Taken done (answerWithin (length buffer - done) got piece) buffer after r → Ended r → ReadFrom got piece before after r
 and-ended {pieces} {before} {buffer} {after} {piece} {done} {got} {r} s t e =
     let long = as-long s t in
-    let room : length buffer - done ≡ length before - length (joined pieces) = omega (arith, long, s .counted) in
+    let room : length buffer - done ≡ length before - length (joinAll pieces) = omega (arith, long, s .counted) in
     let u = subst (λ (n : ℕ). Taken done (answerWithin n got piece) buffer after r) room t in
     record {
       pieces = pieces;

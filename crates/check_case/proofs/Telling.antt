@@ -8,7 +8,8 @@ use lib.ListN.{length}
 use lib.IntN.{ℤ}
 use lib.Seq.{sets}
 use Rattle.io.specs.Counts.{Counts}
-use Rattle.definition.specs.34-Program.{so-far, readAll, mostRead, printed, joined}
+use Rattle.definition.specs.03-Lists.{joinAll}
+use Rattle.definition.specs.34-Program.{so-far, readAll, mostRead, printed}
 use Rattle.definition.specs.34-Program as program
 use Rattle.check_case.specs.Input.{readingMeant, given, Ended, lastAnswer, answers, ReadFrom}
 use Rattle.check_case.specs.Told.{Tells, Judged}
@@ -32,7 +33,7 @@ judged {got} {piece} {before} {buffer} {text} {after} {r} {told} long read tells
       pieces = read .pieces;
       none-empty = read .none-empty;
       unfilled = omega (arith, long, read .unfilled);
-      buffer = read .buffer ∙ ap (λ (n : ℕ). sets before 0 (joined (read .pieces) ++ given (lastAnswer n (read .pieces) got piece))) long;
+      buffer = read .buffer ∙ ap (λ (n : ℕ). sets before 0 (joinAll (read .pieces) ++ given (lastAnswer n (read .pieces) got piece))) long;
       ended = λ bytes e. never-so-far r buffer bytes (read .ended) (is ∙ e);
       tells = subst (λ (x : program.Reading). Tells (printed x) text after told) is tells;
     }

@@ -5,7 +5,8 @@ use mathlib.Core.List.{List, [], _∷_, _++_, map}
 use lib.ListN.{length, take}
 use lib.IntN.{ℤ, pos, negsuc}
 use lib.Seq.{sets}
-use Rattle.definition.specs.34-Program.{Answer, gives, error, so-far, whole, failed, readOn, readAll, joined, NoneEmpty}
+use Rattle.definition.specs.03-Lists.{joinAll}
+use Rattle.definition.specs.34-Program.{Answer, gives, error, so-far, whole, failed, readOn, readAll, NoneEmpty}
 use Rattle.definition.specs.34-Program as program
 use Rattle.check_case.specs.declared.input.Reading.{Reading}
 use Rattle.check_case.specs.declared.input.Reading.the-variants.{More, Whole, Failed}
@@ -50,7 +51,7 @@ Ended Failed = Unit {0}
 
 -- The last answer, behind these pieces, into a buffer that takes so many bytes.
 abbrev pub lastAnswer : (most : ℕ) → List (List ℕ) → ℤ → List ℕ → Answer
-lastAnswer most pieces got piece = answerWithin (most - length (joined pieces)) got piece
+lastAnswer most pieces got piece = answerWithin (most - length (joinAll pieces)) got piece
 
 -- All answers: these pieces, and the last.
 abbrev pub answers : (most : ℕ) → List (List ℕ) → ℤ → List ℕ → List Answer
@@ -60,8 +61,8 @@ answers most pieces got piece = map gives pieces ++ lastAnswer most pieces got p
 pub record ReadFrom (got : ℤ) (piece before after : List ℕ) (r : Reading) : Type 0 where
   pub pieces : List (List ℕ)
   pub none-empty : NoneEmpty pieces
-  pub unfilled : length (joined pieces) < length before
+  pub unfilled : length (joinAll pieces) < length before
   pub reading : readingMeant r after ≡ readAll (length before) (so-far []) (answers (length before) pieces got piece)
   pub ended : Ended r
   pub held : Held r after
-  pub buffer : after ≡ sets before 0 (joined pieces ++ given (lastAnswer (length before) pieces got piece))
+  pub buffer : after ≡ sets before 0 (joinAll pieces ++ given (lastAnswer (length before) pieces got piece))

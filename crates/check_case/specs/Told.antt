@@ -7,7 +7,8 @@ use lib.ListN.{length}
 use lib.IntN.{ℤ}
 use lib.Seq.{sets}
 use Rattle.io.specs.Counts.{Counts}
-use Rattle.definition.specs.34-Program.{so-far, readAll, mostRead, printed, joined, NoneEmpty}
+use Rattle.definition.specs.03-Lists.{joinAll}
+use Rattle.definition.specs.34-Program.{so-far, readAll, mostRead, printed, NoneEmpty}
 use Rattle.check_case.specs.Input.{given, lastAnswer, answers}
 use Rattle.check_case.specs.Written.{Written}
 use Rattle.check_case.specs.declared.Told.{Told}
@@ -24,7 +25,7 @@ Tells none before after Nothing = after ≡ before
 pub record Judged (got : ℤ) (piece case-before case-after before after : List ℕ) (told : Told) : Type 0 where
   pub pieces : List (List ℕ)
   pub none-empty : NoneEmpty pieces
-  pub unfilled : length (joined pieces) < mostRead
-  pub buffer : case-after ≡ sets case-before 0 (joined pieces ++ given (lastAnswer mostRead pieces got piece))
+  pub unfilled : length (joinAll pieces) < mostRead
+  pub buffer : case-after ≡ sets case-before 0 (joinAll pieces ++ given (lastAnswer mostRead pieces got piece))
   pub ended : (bytes : List ℕ) → readAll mostRead (so-far []) (answers mostRead pieces got piece) ≡ so-far bytes → ⊥
   pub tells : Tells (printed (readAll mostRead (so-far []) (answers mostRead pieces got piece))) before after told

@@ -13,7 +13,8 @@ use Rattle.definition.specs.04-Checks.{single, Fails, here}
 use Rattle.definition.specs.11-Layout.{headerBytes, mostBytes, badLength, layoutChecks}
 use Rattle.definition.specs.18-Admission.{admissionChecks}
 use Rattle.definition.specs.31-Outcome.{refused, allChecks, report, outcome}
-use Rattle.definition.specs.34-Program.{Answer, gives, error, Reading, so-far, whole, failed, filled, readOn, readAll, joined, NoneEmpty, CutsDoNotShow, ErrorsShow, NothingHalfRead, mostRead, UnreadDoesNotShow}
+use Rattle.definition.specs.03-Lists.{joinAll}
+use Rattle.definition.specs.34-Program.{Answer, gives, error, Reading, so-far, whole, failed, filled, readOn, readAll, NoneEmpty, CutsDoNotShow, ErrorsShow, NothingHalfRead, mostRead, UnreadDoesNotShow}
 use Rattle.definition.proofs.Tests.{or-intro-right}
 use Rattle.definition.proofs.Findings.{fault-finding}
 
@@ -64,8 +65,8 @@ more-given most bytes (gives (b ∷ bs)) all e = (b ∷ bs, refl, omega arith, g
 
 pieces-read :
     (most : ℕ) (bytes : List ℕ) → length bytes ≤ most → (pieces : List (List ℕ)) → NoneEmpty pieces → (behind : List Answer) →
-    readAll most (so-far bytes) (map gives pieces ++ gives [] ∷ behind) ≡ whole (take most (bytes ++ joined pieces))
-unfolding readAll readOn joined
+    readAll most (so-far bytes) (map gives pieces ++ gives [] ∷ behind) ≡ whole (take most (bytes ++ joinAll pieces))
+unfolding readAll readOn joinAll
 pieces-read most bytes h [] f behind = stays-whole most bytes behind ∙ ap whole (sym (ap (take most) (append-nil bytes) ∙ take-all most bytes h))
 pieces-read most bytes h ([] ∷ pieces) f behind = absurd (omega (arith, f .0))
 pieces-read most bytes h ((b ∷ bs) ∷ pieces) f behind =
@@ -73,32 +74,32 @@ pieces-read most bytes h ((b ∷ bs) ∷ pieces) f behind =
   where
     go :
         (t : Bool) → ltb (length (bytes ++ b ∷ bs)) most ≡ t →
-        (length (bytes ++ b ∷ bs) ≤ most → readAll most (so-far (bytes ++ b ∷ bs)) (map gives pieces ++ gives [] ∷ behind) ≡ whole (take most (bytes ++ b ∷ bs ++ joined pieces))) →
-        readAll most (filled most (bytes ++ b ∷ bs)) (map gives pieces ++ gives [] ∷ behind) ≡ whole (take most (bytes ++ ((b ∷ bs) ++ joined pieces)))
+        (length (bytes ++ b ∷ bs) ≤ most → readAll most (so-far (bytes ++ b ∷ bs)) (map gives pieces ++ gives [] ∷ behind) ≡ whole (take most (bytes ++ b ∷ bs ++ joinAll pieces))) →
+        readAll most (filled most (bytes ++ b ∷ bs)) (map gives pieces ++ gives [] ∷ behind) ≡ whole (take most (bytes ++ ((b ∷ bs) ++ joinAll pieces)))
     go true e on =
         let next = bytes ++ b ∷ bs in
         let rest = map gives pieces ++ gives [] ∷ behind in
         let less = ltb-true (length next) most e in
-        ap (λ (r : Reading). readAll most r rest) (filled-more most next less) ∙ on (omega (arith, less)) ∙ ap (λ (l : List ℕ). whole (take most l)) (append-assoc bytes (b ∷ bs) (joined pieces))
+        ap (λ (r : Reading). readAll most r rest) (filled-more most next less) ∙ on (omega (arith, less)) ∙ ap (λ (l : List ℕ). whole (take most l)) (append-assoc bytes (b ∷ bs) (joinAll pieces))
     go false e on =
         let next = bytes ++ b ∷ bs in
         let rest = map gives pieces ++ gives [] ∷ behind in
         let full = ltb-false (length next) most e in
         ap (λ (r : Reading). readAll most r rest) (filled-whole most next full) ∙ stays-whole most (take most next) rest
-        ∙ ap whole (sym (ap (take most) (sym (append-assoc bytes (b ∷ bs) (joined pieces))) ∙ take-append-le most next (joined pieces) full))
+        ∙ ap whole (sym (ap (take most) (sym (append-assoc bytes (b ∷ bs) (joinAll pieces))) ∙ take-append-le most next (joinAll pieces) full))
 
 pub cuts-do-not-show : CutsDoNotShow
 cuts-do-not-show most pieces f behind = pieces-read most [] (omega arith) pieces f behind
 
 error-read :
-    (most : ℕ) (bytes : List ℕ) (pieces : List (List ℕ)) → NoneEmpty pieces → length bytes + length (joined pieces) < most → (behind : List Answer) →
+    (most : ℕ) (bytes : List ℕ) (pieces : List (List ℕ)) → NoneEmpty pieces → length bytes + length (joinAll pieces) < most → (behind : List Answer) →
     readAll most (so-far bytes) (map gives pieces ++ error ∷ behind) ≡ failed
-unfolding readAll readOn joined
+unfolding readAll readOn joinAll
 error-read most bytes [] f h behind = stays-failed most behind
 error-read most bytes ([] ∷ pieces) f h behind = absurd (omega (arith, f .0))
 error-read most bytes ((b ∷ bs) ∷ pieces) f h behind =
     let both = length-append bytes (b ∷ bs) in
-    let all = length-append (b ∷ bs) (joined pieces) in
+    let all = length-append (b ∷ bs) (joinAll pieces) in
     ap (λ (r : Reading). readAll most r (map gives pieces ++ error ∷ behind)) (filled-more most (bytes ++ b ∷ bs) (omega (arith, both, all, h)))
     ∙ error-read most (bytes ++ b ∷ bs) pieces (f .1) (omega (arith, both, all, h)) behind
 
@@ -108,22 +109,22 @@ errors-show most pieces f h behind = error-read most [] pieces f (omega (arith, 
 -- What was given when the bytes so far are followed by these answers.
 abbrev Given : (most : ℕ) (bytes : List ℕ) (answers : List Answer) (s : List ℕ) → Type 0
 Given most bytes answers s =
-    (pieces : List (List ℕ)) × (behind : List Answer) × (s ≡ take most (bytes ++ joined pieces))
-    × ((answers ≡ map gives pieces ++ gives [] ∷ behind) ⊎ ((answers ≡ map gives pieces ++ behind) × (most ≤ length (bytes ++ joined pieces))))
+    (pieces : List (List ℕ)) × (behind : List Answer) × (s ≡ take most (bytes ++ joinAll pieces))
+    × ((answers ≡ map gives pieces ++ gives [] ∷ behind) ⊎ ((answers ≡ map gives pieces ++ behind) × (most ≤ length (bytes ++ joinAll pieces))))
 
 -- A further piece in front.
 given-more : (most : ℕ) (bytes piece : List ℕ) (answers : List Answer) (s : List ℕ) → Given most (bytes ++ piece) answers s → Given most bytes (gives piece ∷ answers) s
-unfolding joined
-given-more most bytes piece answers s (pieces, behind, is, how) = (piece ∷ pieces, behind, is ∙ ap (take most) (append-assoc bytes piece (joined pieces)), ended how)
+unfolding joinAll
+given-more most bytes piece answers s (pieces, behind, is, how) = (piece ∷ pieces, behind, is ∙ ap (take most) (append-assoc bytes piece (joinAll pieces)), ended how)
   where
     ended :
-        (answers ≡ map gives pieces ++ gives [] ∷ behind) ⊎ ((answers ≡ map gives pieces ++ behind) × (most ≤ length (bytes ++ piece ++ joined pieces))) →
-        (gives piece ∷ answers ≡ map gives (piece ∷ pieces) ++ gives [] ∷ behind) ⊎ ((gives piece ∷ answers ≡ map gives (piece ∷ pieces) ++ behind) × (most ≤ length (bytes ++ (piece ++ joined pieces))))
+        (answers ≡ map gives pieces ++ gives [] ∷ behind) ⊎ ((answers ≡ map gives pieces ++ behind) × (most ≤ length (bytes ++ piece ++ joinAll pieces))) →
+        (gives piece ∷ answers ≡ map gives (piece ∷ pieces) ++ gives [] ∷ behind) ⊎ ((gives piece ∷ answers ≡ map gives (piece ∷ pieces) ++ behind) × (most ≤ length (bytes ++ (piece ++ joinAll pieces))))
     ended (inl e) = inl (ap (λ (l : List Answer). gives piece ∷ l) e)
-    ended (inr (e, h)) = inr (ap (λ (l : List Answer). gives piece ∷ l) e, subst (λ (l : List ℕ). most ≤ length l) (append-assoc bytes piece (joined pieces)) h)
+    ended (inr (e, h)) = inr (ap (λ (l : List Answer). gives piece ∷ l) e, subst (λ (l : List ℕ). most ≤ length l) (append-assoc bytes piece (joinAll pieces)) h)
 
 all-given : (most : ℕ) (bytes : List ℕ) → length bytes ≤ most → (answers : List Answer) (s : List ℕ) → readAll most (so-far bytes) answers ≡ whole s → Given most bytes answers s
-unfolding readAll readOn joined
+unfolding readAll readOn joinAll
 all-given most bytes h [] s e = let z : _≡_ {A = ℕ} 0 1 = cc in absurd (omega arith)
 all-given most bytes h (error ∷ answers) s e = let kept = stays-failed most answers in let z : _≡_ {A = ℕ} 0 1 = cc in absurd (omega arith)
 all-given most bytes h (gives [] ∷ answers) s e =

@@ -7,6 +7,7 @@ use mathlib.Core.Option.{Option, none, some}
 use mathlib.Core.List.{List, [], _∷_, _++_, map}
 use lib.ListN.{length, take}
 use lib.Dec.{ltb}
+use Rattle.definition.specs.03-Lists.{joinAll}
 use Rattle.definition.specs.11-Layout.{mostBytes}
 use Rattle.definition.specs.31-Outcome.{outcome}
 use Rattle.definition.specs.33-Text.{answerText}
@@ -49,11 +50,6 @@ printed (so-far bytes) = none
 printed (whole bytes) = some (answerText bytes)
 printed failed = none
 
--- Pieces of an input, one behind the other.
-unfoldable pub joined : List (List ℕ) → List ℕ
-joined [] = []
-joined (piece ∷ pieces) = piece ++ joined pieces
-
 -- Each piece has a byte at least.
 abbrev pub NoneEmpty : List (List ℕ) → Type 0
 NoneEmpty [] = Unit {0}
@@ -63,20 +59,20 @@ NoneEmpty (piece ∷ pieces) = (0 < length piece) × NoneEmpty pieces
 abbrev pub CutsDoNotShow : Type 0
 CutsDoNotShow =
     (most : ℕ) (pieces : List (List ℕ)) → NoneEmpty pieces → (behind : List Answer) →
-    readAll most (so-far []) (map gives pieces ++ gives [] ∷ behind) ≡ whole (take most (joined pieces))
+    readAll most (so-far []) (map gives pieces ++ gives [] ∷ behind) ≡ whole (take most (joinAll pieces))
 
 -- An error before so many bytes are there is never taken for the end.
 abbrev pub ErrorsShow : Type 0
 ErrorsShow =
-    (most : ℕ) (pieces : List (List ℕ)) → NoneEmpty pieces → length (joined pieces) < most → (behind : List Answer) →
+    (most : ℕ) (pieces : List (List ℕ)) → NoneEmpty pieces → length (joinAll pieces) < most → (behind : List Answer) →
     readAll most (so-far []) (map gives pieces ++ error ∷ behind) ≡ failed
 
 -- What is read whole is all that the system gave before it told the end, or the first so many bytes of what it gave: nothing is judged half read.
 abbrev pub NothingHalfRead : Type 0
 NothingHalfRead =
     (most : ℕ) (answers : List Answer) (bytes : List ℕ) → readAll most (so-far []) answers ≡ whole bytes →
-    (pieces : List (List ℕ)) × (behind : List Answer) × (bytes ≡ take most (joined pieces))
-    × ((answers ≡ map gives pieces ++ gives [] ∷ behind) ⊎ ((answers ≡ map gives pieces ++ behind) × (most ≤ length (joined pieces))))
+    (pieces : List (List ℕ)) × (behind : List Answer) × (bytes ≡ take most (joinAll pieces))
+    × ((answers ≡ map gives pieces ++ gives [] ∷ behind) ⊎ ((answers ≡ map gives pieces ++ behind) × (most ≤ length (joinAll pieces))))
 
 -- What lies behind the bytes read changes no outcome.
 abbrev pub UnreadDoesNotShow : Type 0
@@ -84,5 +80,5 @@ UnreadDoesNotShow = (s room : List ℕ) → outcome (take mostRead s) room ≡ o
 
 -- What an evaluation unfolds of this file.
 unfoldable pub evaluatedProgram : Unit {0}
-unfolding filled readOn readAll printed joined
+unfolding filled readOn readAll printed
 evaluatedProgram = tt

@@ -3,6 +3,7 @@ use Prim.Native.Nat.{ℕ, _+_, _/_, _%_}
 use mathlib.Core.List.{List, [], _∷_, _++_}
 use lib.ListN.{length}
 use Rattle.definition.specs.01-Words.{absent}
+use Rattle.definition.specs.03-Lists.{joinAll}
 
 -- Numbers of 16 bits as bytes, the low byte first.
 unfoldable pub words : List ℕ → List ℕ
@@ -45,10 +46,6 @@ userActionRow c x y z = formulaRow 10 c x y z
 unfoldable pub step : (rule formula argument start len : ℕ) → List ℕ
 step r f a start len = r ∷ f ∷ a ∷ start ∷ len ∷ []
 
-unfoldable pub joinAll : List (List ℕ) → List ℕ
-joinAll [] = []
-joinAll (p ∷ ps) = p ++ joinAll ps
-
 -- The header's pairs of offset and length, for parts that begin at `at`.
 unfoldable pub pairs : ℕ → List (List ℕ) → List ℕ
 pairs at [] = []
@@ -86,5 +83,5 @@ fileOf w =
 
 -- What an evaluation unfolds of this file.
 unfoldable pub evaluatedFiles : Unit {0}
-unfolding words formulaRow predicateRow ownsRow saysRow andRow impliesRow afterRow communicatesRow createsRow userActionRow step joinAll pairs laidOut fileOf
+unfolding words formulaRow predicateRow ownsRow saysRow andRow impliesRow afterRow communicatesRow createsRow userActionRow step pairs laidOut fileOf
 evaluatedFiles = tt

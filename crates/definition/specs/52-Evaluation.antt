@@ -5,6 +5,7 @@ use mathlib.Core.List.{List}
 use native.Mathlib.Decide.{ℕ-discrete}
 use Rattle.definition.specs.01-Words.{evaluatedWords}
 use Rattle.definition.specs.02-Ranges.{evaluatedRanges}
+use Rattle.definition.specs.03-Lists.{evaluatedLists}
 use Rattle.definition.specs.04-Checks.{evaluatedChecks}
 use Rattle.definition.specs.11-Layout.{evaluatedLayout}
 use Rattle.definition.specs.12-Terms.{evaluatedTerms}
@@ -20,5 +21,5 @@ use Rattle.definition.specs.31-Outcome.{Outcome, outcome, evaluatedOutco
 use Rattle.definition.specs.51-Files.{evaluatedFiles}
 
 unfoldable pub evaluated : List ℕ → List ℕ → Outcome
-unfolding decide ℕ-discrete evaluatedWords evaluatedRanges evaluatedChecks evaluatedLayout evaluatedTerms evaluatedFormulas evaluatedBook evaluatedRecords evaluatedViews evaluatedCase evaluatedAdmission evaluatedRules evaluatedSteps evaluatedOutcome evaluatedFiles
+unfolding decide ℕ-discrete evaluatedWords evaluatedRanges evaluatedLists evaluatedChecks evaluatedLayout evaluatedTerms evaluatedFormulas evaluatedBook evaluatedRecords evaluatedViews evaluatedCase evaluatedAdmission evaluatedRules evaluatedSteps evaluatedOutcome evaluatedFiles
 evaluated s room = outcome s room
