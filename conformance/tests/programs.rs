@@ -277,3 +277,38 @@ fn programs_on_read_errors() {
     assert_eq!(text, "case 47653\nrefused 1 0\n");
     assert_eq!(run_until_error(&console, &longer).status.code(), Some(2));
 }
+
+/// The code of a file of the program, without comments, imports and contracts.
+fn code(file: &str) -> String {
+    let text = fs::read_to_string(project(&format!("crates/check_case/src/{file}.rt")));
+    let text = text.expect("it is there");
+    let other = ["//", "use ", "ghost use ", "requires ", "ensures "];
+    let lines = text.lines().map(str::trim);
+    let kept = lines.filter(|line| !other.iter().any(|start| line.starts_with(start)));
+    kept.flat_map(|line| [line, "\n"]).collect()
+}
+
+/// What no contract can say of a call of C is read off the source: there is one read, its answer
+/// goes to `take_answer` and nobody else writes it, and what the program tells is all that it
+/// writes on standard output.
+#[test]
+fn program_source() {
+    let (input, main) = (code("input"), code("main"));
+    let all = [&input, &main, &code("report"), &code("text")].map(String::as_str).concat();
+    let count = |text: &str| all.matches(text).count();
+    assert_eq!(count("libc::"), 1);
+    assert!(input.contains(
+        "*got = libc::read(STDIN_FILENO, piece);\ntake_answer(done, *got, piece, buffer)\n"
+    ));
+    assert_eq!(count("*got"), 2);
+    assert_eq!(count("piece["), count("&piece[..more]") + count("&mut piece[..most]"));
+    // Each is defined and called once.
+    for function in ["take_answer(", "read_piece(", "read_on(", "read_case(", "judge_input("] {
+        assert_eq!(count(function), 2, "{function}");
+    }
+    // Only `main` writes: the text told, and two complaints.
+    let (_, body) = main.split_once("fn main() {").expect("there is a main");
+    assert_eq!((count("io::write"), body.matches("io::write_all(").count()), (3, 3));
+    assert!(body.contains("io::write_all(STDOUT_FILENO, &text[..end])"));
+    assert_eq!(count("STDOUT_FILENO"), 1);
+}

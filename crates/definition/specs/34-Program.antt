@@ -9,8 +9,8 @@ use lib.ListN.{length, take}
 use lib.Dec.{ltb}
 use Rattle.definition.specs.03-Lists.{joinAll}
 use Rattle.definition.specs.11-Layout.{mostBytes}
-use Rattle.definition.specs.31-Outcome.{outcome}
-use Rattle.definition.specs.33-Text.{answerText}
+use Rattle.definition.specs.31-Outcome.{refused, outcome}
+use Rattle.definition.specs.33-Text.{lentRoom, answerText}
 
 -- "The bytes read (at most 47,653)": one more than the longest file has, so that a longer input is refused for its length.
 abbrev pub mostRead : ℕ
@@ -77,6 +77,10 @@ NothingHalfRead =
 -- What lies behind the bytes read changes no outcome.
 abbrev pub UnreadDoesNotShow : Type 0
 UnreadDoesNotShow = (s room : List ℕ) → outcome (take mostRead s) room ≡ outcome s room
+
+-- The room that the program lends is never too short.
+abbrev pub LentRoomSuffices : Type 0
+LentRoomSuffices = (s : List ℕ) (n : ℕ) → outcome s lentRoom .verdict ≡ refused 23 n → ⊥
 
 -- What an evaluation unfolds of this file.
 unfoldable pub evaluatedProgram : Unit {0}

@@ -1,15 +1,17 @@
--- Document 01's table of refusals: the example of each row that is no desk case, and further ones for places and binders, computed from the definition; and the numbers of all checks in their order.
+-- Document 01's table of refusals: the example of each row that is no desk case, and further ones for places, binders and limits, computed from the definition; the numbers of all checks in their order, and the ranges of terms.
 use Prim.Native.Nat.{ℕ, _+_}
 use mathlib.Core.List.{List, [], _∷_, _++_, map}
 use mathlib.Core.Path.{_≡_, refl}
-use lib.ListN.{length, take, drop}
+use lib.ListN.{length, take, drop, replicate}
 use Rattle.definition.specs.01-Words.{absent}
+use Rattle.definition.specs.03-Lists.{joinAll}
 use Rattle.definition.specs.04-Checks.{numberOf}
+use Rattle.definition.specs.12-Terms.{agents, data-objects, object, parameter, variable, absent-term, no-term, classOf}
 use Rattle.definition.specs.17-Case.{Case}
 use Rattle.definition.specs.18-Admission.{admissionChecks}
 use Rattle.definition.specs.22-Steps.{State, stepChecks}
 use Rattle.definition.specs.31-Outcome.{passed, refused, owingChecks, endChecks}
-use Rattle.definition.specs.51-Files.{fileOf, formulaRow, predicateRow, ownsRow, saysRow, andRow, impliesRow, communicatesRow, createsRow, userActionRow, step}
+use Rattle.definition.specs.51-Files.{words, laidOut, fileOf, formulaRow, predicateRow, ownsRow, saysRow, andRow, impliesRow, communicatesRow, createsRow, userActionRow, step}
 use Rattle.definition.specs.53-Desk.{DeskCase, computed, expected, unchanged, writes, grantWith, seenBy, ownerStep, grant, built}
 
 -- Grant with one byte changed, with other steps, and with further records.
@@ -129,6 +131,14 @@ binderCases =
     ∷ unchanged (twoBinders 7) (refused 18 3)
     ∷ []
 
+-- So many records of these two numbers.
+unfoldable pub pairsOf : (count first second : ℕ) → List ℕ
+pairsOf count first second = joinAll (replicate count (first ∷ second ∷ []))
+
+-- Only an observer: no part before it has a byte.
+unfoldable pub observerAlone : List ℕ
+observerAlone = laidOut 0 0 ([] ∷ [] ∷ words (0 ∷ []) ∷ [] ∷ [] ∷ [] ∷ [] ∷ [] ∷ [])
+
 -- What builds these files, for an evaluation to unfold.
 unfoldable pub builtTable : Unit {0}
 unfolding built grantByte grantSteps grantOf grantAnd supposing supposedParameter supposedOwed laterPremise twoBinders
@@ -162,3 +172,44 @@ step-numbers c k t = refl
 pub end-numbers : (c : Case) (t : State) (room : ℕ) → map numberOf (endChecks c t room) ≡ 20 ∷ 21 ∷ 22 ∷ 23 ∷ []
 unfolding builtTable
 end-numbers c t room = refl
+
+-- What the numbers at both ends of each range of terms are, and those beside them.
+pub terms-classed :
+    map classOf (0 ∷ 16383 ∷ 16384 ∷ 32767 ∷ 32768 ∷ 32799 ∷ 32800 ∷ 32831 ∷ 32832 ∷ 40959 ∷ 40960 ∷ 40967 ∷ 40968 ∷ 40975 ∷ 40976 ∷ 65534 ∷ 65535 ∷ [])
+    ≡ object agents
+    ∷ object agents
+    ∷ object data-objects
+    ∷ object data-objects
+    ∷ parameter agents
+    ∷ parameter agents
+    ∷ parameter data-objects
+    ∷ parameter data-objects
+    ∷ no-term
+    ∷ no-term
+    ∷ variable agents 0
+    ∷ variable agents 7
+    ∷ variable data-objects 0
+    ∷ variable data-objects 7
+    ∷ no-term
+    ∷ no-term
+    ∷ absent-term
+    ∷ []
+unfolding builtTable
+terms-classed = refl
+
+-- The small parts at their most records, and with one more: 64 conditions, 64 obligations, 32 labels.
+unfoldable pub limitCases : List DeskCase
+limitCases =
+    writes (grantAnd [] (0 ∷ []) (replicate 64 absent) [] []) (passed 0 1) (0 ∷ 902 ∷ 903 ∷ [])
+    ∷ unchanged (grantAnd [] (0 ∷ []) (replicate 65 absent) [] []) (refused 2 3)
+    ∷ writes (grantAnd [] (0 ∷ []) [] (pairsOf 64 1 0) []) (passed 0 1) (0 ∷ 902 ∷ 903 ∷ [])
+    ∷ unchanged (grantAnd [] (0 ∷ []) [] (pairsOf 65 1 0) []) (refused 2 4)
+    ∷ writes (grantAnd [] (0 ∷ []) [] [] (pairsOf 32 0 1)) (passed 0 1) (0 ∷ 902 ∷ 903 ∷ [])
+    ∷ unchanged (grantAnd [] (0 ∷ []) [] [] (pairsOf 33 0 1)) (refused 2 5)
+    -- an observer without a log row
+    ∷ unchanged observerAlone (refused 2 2)
+    ∷ []
+
+pub limit-claim : map computed limitCases ≡ map expected limitCases
+unfolding builtTable limitCases pairsOf observerAlone
+limit-claim = refl
