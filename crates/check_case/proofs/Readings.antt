@@ -85,11 +85,11 @@ module _ (before after bytes : List ℕ) (done end : ℕ) (w : Written before do
 
   taken-full : 0 < length bytes → length after ≤ end → Taken done (gives bytes) before after (Whole end)
   taken-full some full =
-      let joinAll = take done before ++ bytes in
+      let all = take done before ++ bytes in
       record {
         reading =
-            ap whole (joined-is ∙ sym (take-all (length before) joinAll (omega (arith, joined-length, w .ends, fits))))
-            ∙ sym (filled-whole (length before) joinAll (omega (arith, joined-length, kept w, full)))
+            ap whole (joined-is ∙ sym (take-all (length before) all (omega (arith, joined-length, w .ends, fits))))
+            ∙ sym (filled-whole (length before) all (omega (arith, joined-length, kept w, full)))
             ∙ sym (given-on (length before) (take done before) bytes some);
         held = omega (arith, w .ends, fits, kept w);
         buffer = w .is;
@@ -133,10 +133,10 @@ more-counted {done} {count} {answer} {before} {after} h t = go (more-given (leng
 pub more-done : {done count : ℕ} {answer : Answer} {before after : List ℕ} → done ≤ length before → Taken done answer before after (More count) → done < count
 more-done h t = let m = more-counted h t in omega (arith, m .2, m .3)
 
-joined-snoc : (pieces : List (List ℕ)) (piece : List ℕ) → joinAll (pieces ++ piece ∷ []) ≡ joinAll pieces ++ piece
+join-snoc : (pieces : List (List ℕ)) (piece : List ℕ) → joinAll (pieces ++ piece ∷ []) ≡ joinAll pieces ++ piece
 unfolding joinAll
-joined-snoc [] piece = append-nil piece
-joined-snoc (first ∷ pieces) piece = ap (λ (l : List ℕ). first ++ l) (joined-snoc pieces piece) ∙ sym (append-assoc first (joinAll pieces) piece)
+join-snoc [] piece = append-nil piece
+join-snoc (first ∷ pieces) piece = ap (λ (l : List ℕ). first ++ l) (join-snoc pieces piece) ∙ sym (append-assoc first (joinAll pieces) piece)
 
 gives-snoc : (pieces : List (List ℕ)) (piece : List ℕ) → map gives (pieces ++ piece ∷ []) ≡ map gives pieces ++ gives piece ∷ []
 gives-snoc [] piece = refl
@@ -188,9 +188,9 @@ and-more {pieces} {before} {buffer} {after} {done} {count} {answer} s t = go (mo
       record {
         none-empty = none-empty-snoc pieces piece (s .none-empty) some;
         within = t .held;
-        counted = long ∙ ap (λ (k : ℕ). k + length piece) (s .counted) ∙ sym (ap length (joined-snoc pieces piece) ∙ length-append (joinAll pieces) piece);
+        counted = long ∙ ap (λ (k : ℕ). k + length piece) (s .counted) ∙ sym (ap length (join-snoc pieces piece) ∙ length-append (joinAll pieces) piece);
         reading = ap (readAll (length before) (so-far [])) (gives-snoc pieces piece ∙ ap (λ (a : Answer). map gives pieces ++ a ∷ []) (sym is)) ∙ sym (on s t);
-        stored = stored-on s t ∙ ap (sets before 0) (ap (λ (a : Answer). joinAll pieces ++ given a) is ∙ sym (joined-snoc pieces piece));
+        stored = stored-on s t ∙ ap (sets before 0) (ap (λ (a : Answer). joinAll pieces ++ given a) is ∙ sym (join-snoc pieces piece));
       },
     )
 

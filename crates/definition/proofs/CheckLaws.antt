@@ -1,15 +1,16 @@
 -- Laws of runs of checks: what it takes that one accepts, and where a refusal comes from. Each by the cases of its first check.
 -- Assumes nothing.
 use Prim.Native.Nat.{ℕ, _+_, _≤_, _<_}
-use mathlib.Core.Path.{_≡_, refl, sym, subst, _∙_}
+use mathlib.Core.Path.{_≡_, refl, sym, _∙_}
 use mathlib.Core.Bool.{Bool, true, false, _||_}
 use mathlib.Core.Logic.{_⊎_, inl, inr, ⊎-elim}
 use mathlib.Core.List.{List, [], _∷_, _++_}
 use native.Mathlib.Omega.{arith}
-use lib.Dec.{T, eqb}
+use lib.Dec.{eqb}
 use borrow.Author.Tests.{ltb-true, lt-ltb, le-ltb, eq-eqb}
 use Rattle.definition.specs.02-Ranges.{any, lowest}
 use Rattle.definition.specs.04-Checks.{Checked, accepts, refuses, _>>_, Check, single, each, numberOf, check, try, inOrder, Holds, Fails, AllHold, FirstFault, here, later}
+use Rattle.definition.proofs.Tests.{or-intro-left, or-intro-right, not-both}
 use Rattle.definition.proofs.RangeLaws.{any-false, any-none, lowest-found, lowest-is, lowest-any}
 
 pub then-assoc : {A B C : Type 0} (a : Checked A) (b : Checked B) (c : Checked C) → _>>_ (_>>_ a b) c ≡ _>>_ a (_>>_ b c)
@@ -217,13 +218,9 @@ failing-number : (c : Check) (n p : ℕ) → Fails c n p → numberOf c ≡ n
 failing-number (single m q fault) n p f = f .0
 failing-number (each m count fault) n p f = f .0
 
-pub has-number : {cs : List Check} {n p : ℕ} → FirstFault cs n p → hasNumber n cs ≡ true
-has-number (here {c = c} {n = n} {p = p} f) = rw (eq-eqb (numberOf c) n (failing-number c n p f))
-has-number (later {c = c} {cs = cs} {n = n} h f) = rw (has-number f) (or-true (eqb (numberOf c) n))
-  where
-    or-true : (b : Bool) → (b || true) ≡ true
-    or-true true = refl
-    or-true false = refl
+has-number : {cs : List Check} {n p : ℕ} → FirstFault cs n p → hasNumber n cs ≡ true
+has-number (here {c = c} {cs = cs} {n = n} {p = p} f) = or-intro-left (hasNumber n cs) (eq-eqb (numberOf c) n (failing-number c n p f))
+has-number (later {c = c} {cs = cs} {n = n} h f) = or-intro-right (eqb (numberOf c) n) (has-number f)
 
 pub other-number : {A : Type 0} (cs : List Check) {n p : ℕ} → hasNumber n cs ≡ false → FirstFault cs n p → A
-other-number cs e f = let z : true ≡ false = sym (has-number f) ∙ e in absurd (subst T z tt)
+other-number cs e f = absurd (not-both (has-number f) e)

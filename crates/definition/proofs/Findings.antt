@@ -8,7 +8,7 @@ use lib.ListN.{length}
 use Rattle.definition.proofs.CheckLaws.{then-accepts, then-refuses, never-both, all-hold, hold-all, first-fault, fault-first}
 use Rattle.definition.specs.04-Checks.{AllHold, FirstFault, Checked, accepts, refuses, _>>_, inOrder}
 use Rattle.definition.specs.17-Case.{caseOf}
-use Rattle.definition.specs.31-Outcome.{passed, refused, Finding, justified, nothing-owed, allChecks, found, finding, report, outcome}
+use Rattle.definition.specs.31-Outcome.{passed, none-owed, refused, Finding, justified, nothing-owed, allChecks, found, finding, report, outcome}
 use Rattle.definition.specs.44-Demands.{FirstIsTold}
 
 accepted : {A : Type 0} {x y : A} → accepts x ≡ accepts y → x ≡ y
@@ -31,7 +31,7 @@ module _ (s : List ℕ) (m : ℕ) where
   unfolding finding _>>_
   fault-finding f = rw (fault-first f)
 
--- What a reported pass was, and a reported refusal.
+-- What a reported pass was, a reported "none owed", and a reported refusal.
 pub reported-pass :
     (x : Checked Finding) (room : List ℕ) (d r : ℕ) → report x room .verdict ≡ passed d r →
     (ds : List ℕ) × (rs : List ℕ) × (x ≡ accepts (justified ds rs)) × (length ds ≡ d) × (length rs ≡ r)
@@ -40,7 +40,13 @@ reported-pass (accepts (justified ds rs)) room d r e = (ds, rs, refl, cc, cc)
 reported-pass (accepts nothing-owed) room d r e = absurd (let z : _≡_ {A = ℕ} 0 1 = cc in omega arith)
 reported-pass (refuses n p) room d r e = absurd (let z : _≡_ {A = ℕ} 0 1 = cc in omega arith)
 
-reported-refusal : (x : Checked Finding) (room : List ℕ) (n p : ℕ) → report x room .verdict ≡ refused n p → x ≡ refuses n p
+pub reported-none : (x : Checked Finding) (room : List ℕ) → report x room .verdict ≡ none-owed → x ≡ accepts nothing-owed
+unfolding report
+reported-none (accepts (justified ds rs)) room e = absurd (let z : _≡_ {A = ℕ} 0 1 = cc in omega arith)
+reported-none (accepts nothing-owed) room e = refl
+reported-none (refuses n p) room e = absurd (let z : _≡_ {A = ℕ} 0 1 = cc in omega arith)
+
+pub reported-refusal : (x : Checked Finding) (room : List ℕ) (n p : ℕ) → report x room .verdict ≡ refused n p → x ≡ refuses n p
 unfolding report
 reported-refusal (accepts (justified ds rs)) room n p e = absurd (let z : _≡_ {A = ℕ} 0 1 = cc in omega arith)
 reported-refusal (accepts nothing-owed) room n p e = absurd (let z : _≡_ {A = ℕ} 0 1 = cc in omega arith)

@@ -9,21 +9,15 @@ use lib.ListN.{length}
 use borrow.Author.Tests.{ltb-false}
 use Rattle.definition.proofs.CheckLaws.{all-hold, hold-all, by-number, both-hold, hold-both}
 use Rattle.definition.proofs.ConclusionLaws as conclusions
-use Rattle.definition.proofs.Findings.{finding-holds, holds-finding}
-use Rattle.definition.specs.04-Checks.{AllHold, Checked, accepts, refuses}
+use Rattle.definition.proofs.Findings.{finding-holds, holds-finding, reported-none}
+use Rattle.definition.specs.04-Checks.{AllHold, accepts}
 use Rattle.definition.specs.13-Formulas.{Formula}
 use Rattle.definition.specs.17-Case.{Case, caseOf}
 use Rattle.definition.specs.18-Admission.{admissionChecks, admission}
 use Rattle.definition.specs.21-Rules.{owed}
-use Rattle.definition.specs.31-Outcome.{none-owed, Finding, justified, nothing-owed, owes, isOwed, hasSteps, noProof, needlessProof, owingChecks, checksIfOwed, caseChecks, allChecks, foundIfOwed, found, finding, report, outcome}
+use Rattle.definition.specs.31-Outcome.{nothing-owed, owes, isOwed, hasSteps, noProof, needlessProof, owingChecks, checksIfOwed, caseChecks, allChecks, foundIfOwed, found, finding, report, outcome}
 use Rattle.definition.specs.42-Account.{Owes}
 use Rattle.definition.specs.44-Demands.{NoneOwedExactly}
-
-reported-none : (x : Checked Finding) (room : List ℕ) → report x room .verdict ≡ none-owed → x ≡ accepts nothing-owed
-unfolding report
-reported-none (accepts (justified ds rs)) room e = absurd (let z : _≡_ {A = ℕ} 0 1 = cc in omega arith)
-reported-none (accepts nothing-owed) room e = refl
-reported-none (refuses n p) room e = absurd (let z : _≡_ {A = ℕ} 0 1 = cc in omega arith)
 
 found-nothing : (o : Option Formula) (c : Case) → foundIfOwed o c ≡ nothing-owed → o ≡ none
 unfolding foundIfOwed

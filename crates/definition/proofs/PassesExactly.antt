@@ -18,7 +18,6 @@ use Rattle.definition.proofs.PremiseLaws.{share-same}
 use Rattle.definition.proofs.RuleLaws.{Small}
 use Rattle.definition.proofs.Sound.{tree, reaches}
 use Rattle.definition.proofs.StateMarks.{used-before, before-used, cited-before, openAt, opens-at, joined-same}
-use Rattle.definition.proofs.States.{Fine}
 use Rattle.definition.proofs.StepLaws.{Local, fine-parts, parts-fine, spans-adjoin, adjoin-spans}
 use Rattle.definition.proofs.Tests.{not-both, never-true}
 use Rattle.definition.specs.03-Lists.{Among}
@@ -30,7 +29,7 @@ use Rattle.definition.specs.18-Admission.{admission}
 use Rattle.definition.specs.22-Steps.{Labels, startState, next, premisesOf, isAnObligation, stateAt}
 use Rattle.definition.specs.31-Outcome.{owes, lastStep, dischargedList, citedList, finalState, finding, report, outcome}
 use Rattle.definition.specs.42-Account.{Account}
-use Rattle.definition.specs.44-Demands.{Justified, PassesExactly, RefusedForRoom}
+use Rattle.definition.specs.44-Demands.{StepsHold, Justified, PassesExactly, RefusedForRoom}
 
 last-step : (c : Case) → 0 < c .steps → lastStep c + 1 ≡ c .steps
 unfolding lastStep
@@ -74,7 +73,7 @@ module _ (c : Case) (f : Formula) (small : Small c) (a : Account c f) where
         split = share-same c (openAt c) (stateAt c k .opens) (premisesOf c k) (opens-same k lt) (l .split);
       }
 
-  account-fine : (k : ℕ) → k < c .steps → Fine c k (stateAt c k)
+  account-fine : StepsHold c (c .steps)
   unfolding startState next
   account-fine k lt =
       let s = whole .region .sure k (a .all-used k lt) in

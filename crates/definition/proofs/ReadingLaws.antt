@@ -1,29 +1,22 @@
--- Reading takes all bytes that the system gives before it tells the end, however they are cut, and tells an error from the end; what is left unread is not missed, and the room lent suffices. Assumes nothing.
+-- Reading takes all bytes that the system gives before it tells the end, however they are cut, and tells an error from the end; what is left unread is not missed. Assumes nothing.
 use Prim.Native.Nat.{ℕ, _+_, _≤_, _<_}
 use mathlib.Core.Path.{_≡_, refl, sym, ap, subst, _∙_}
 use mathlib.Core.Logic.{_⊎_, inl, inr}
 use mathlib.Core.Bool.{Bool, true, false}
 use mathlib.Core.List.{List, [], _∷_, _++_, map, append-nil, append-assoc}
 use native.Mathlib.Omega.{arith}
-use lib.ListN.{length, take, length-append, length-take, length-replicate}
+use lib.ListN.{length, take, length-append, length-take}
 use lib.Seq.{take-all, take-append-le}
 use lib.Dec.{ltb}
 use borrow.Author.Tests.{ltb-true, ltb-false, lt-ltb, le-ltb}
-use Rattle.definition.specs.04-Checks.{single, Fails, here}
-use Rattle.definition.specs.11-Layout.{headerBytes, mostBytes, log-part, obligation-part, mostRecords, badLength, layoutChecks}
-use Rattle.definition.specs.17-Case.{caseOf}
-use Rattle.definition.specs.18-Admission.{admissionChecks}
-use Rattle.definition.specs.31-Outcome.{refused, dischargedList, citedList, needed, finalState, allChecks, report, outcome}
-use Rattle.definition.specs.33-Text.{lentRoom}
 use Rattle.definition.specs.03-Lists.{joinAll}
-use Rattle.definition.specs.34-Program.{Answer, gives, error, Reading, so-far, whole, failed, filled, readOn, readAll, NoneEmpty, CutsDoNotShow, ErrorsShow, NothingHalfRead, mostRead, UnreadDoesNotShow, LentRoomSuffices}
+use Rattle.definition.specs.04-Checks.{single, Fails, here}
+use Rattle.definition.specs.11-Layout.{headerBytes, mostBytes, badLength, layoutChecks}
+use Rattle.definition.specs.18-Admission.{admissionChecks}
+use Rattle.definition.specs.31-Outcome.{refused, allChecks, report, outcome}
+use Rattle.definition.specs.34-Program.{Answer, gives, error, Reading, so-far, whole, failed, filled, readOn, readAll, NoneEmpty, CutsDoNotShow, ErrorsShow, NothingHalfRead, mostRead, UnreadDoesNotShow}
 use Rattle.definition.proofs.Tests.{or-intro-right}
-use Rattle.definition.proofs.AdmissionLaws.{admitted-parted}
 use Rattle.definition.proofs.Findings.{fault-finding}
-use Rattle.definition.proofs.PartLaws.{part-few}
-use Rattle.definition.proofs.Passes.{Proved, entries, short-proved}
-use Rattle.definition.proofs.RangeLaws.{members-length}
-use Rattle.definition.proofs.RefusalTable.{refused-by-table}
 
 stays-whole : (most : ℕ) (bytes : List ℕ) (answers : List Answer) → readAll most (whole bytes) answers ≡ whole bytes
 unfolding readAll readOn
@@ -176,21 +169,3 @@ unread-does-not-show s room = go (ltb mostBytes (length s)) refl
         let long = ltb-true mostBytes (length s) e in
         too-long (take mostRead s) room (simp length-take (omega (arith, long))) ∙ sym (too-long s room long)
     go false e = ap (λ (l : List ℕ). outcome l room) (take-all mostRead s (omega (arith, ltb-false mostBytes (length s) e)))
-
--- What a file needs is at most an entry for each obligation and row that it may have.
-room-long : length lentRoom ≡ 1088
-unfolding lentRoom
-room-long = length-replicate {A = ℕ} 1088 0
-
-entries-few : (s : List ℕ) → Proved s → entries s ≤ 1088
-unfolding entries needed dischargedList citedList caseOf mostRecords
-entries-few s w =
-    let c = caseOf s in
-    let f = admitted-parted s (w .admitted) in
-    omega
-    (arith, members-length (finalState c .discharged) (c .obligations) 0, members-length (finalState c .cited) (c .rows) 0, part-few s f obligation-part (omega arith), part-few s f log-part (omega arith))
-
-pub lent-room-suffices : LentRoomSuffices
-lent-room-suffices s n e =
-    let w = short-proved s (length lentRoom) n (refused-by-table s lentRoom 23 n .0 e) in
-    omega (arith, w .1, w .2, entries-few s (w .0), room-long)

@@ -10,7 +10,6 @@ use Rattle.definition.proofs.ListLaws.{among-append, append-among}
 use Rattle.definition.proofs.PremiseLaws.{Distinct, share-split, share-same}
 use Rattle.definition.proofs.RuleLaws.{spends, tests-follow}
 use Rattle.definition.proofs.StateMarks.{used-before, before-used, before-cited, openAt, opens-at, joined-same}
-use Rattle.definition.proofs.States.{Fine}
 use Rattle.definition.proofs.StepLaws.{Parts, fine-parts, premiseFormulas}
 use Rattle.definition.proofs.Tests.{not-both, trichotomy}
 use Rattle.definition.specs.03-Lists.{Among, Disjoint}
@@ -19,6 +18,7 @@ use Rattle.definition.specs.17-Case.{Case}
 use Rattle.definition.specs.21-Rules.{ruleAt}
 use Rattle.definition.specs.22-Steps.{Labels, ruleOf, premisesOf, isAnObligation, joined, share, next, startState, stateAt}
 use Rattle.definition.specs.42-Account.{bothSets, noLabels, ObligationsSplit, Follows, Proof, Proofs, by-rule, no-more, one-more}
+use Rattle.definition.specs.44-Demands.{StepsHold}
 
 -- step x is in the tree of step k
 pub data Below (c : Case) : ℕ → ℕ → Type 0 where
@@ -41,7 +41,7 @@ spent-by c x a o e m = go (isAnObligation (ruleAt (c .step x .rule) .names)) ref
     go true q w = (q, e ∙ ⊎-elim (λ is. sym is) (λ v. absurd v) (rw q at w))
     go false q w = absurd (rw q at w)
 
-module _ (c : Case) (fine : (k : ℕ) → k < c .steps → Fine c k (stateAt c k)) where
+module _ (c : Case) (fine : StepsHold c (c .steps)) where
   parts : (k : ℕ) → k < c .steps → Parts c k (stateAt c k)
   parts k lt = fine-parts c k (stateAt c k) (fine k lt)
 

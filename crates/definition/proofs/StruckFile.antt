@@ -207,24 +207,42 @@ module _ (s : List ℕ) (f : Parted s) where
   unfolding badObserver
   same-observers = fun-ext λ from. fun-ext λ j. rw same-observer
 
+  -- The tests of a row's span and of its observers, which striking out leaves as they are.
+  unfoldable spanFaulty : ℕ → Bool
+  spanFaulty k = badSpan (rowFrom s) (rowCount s) (count s log-part) (count s observer-part) k
+
+  unfoldable observersFaulty : ℕ → Bool
+  observersFaulty k = any (badObserver s (rowFrom s k)) (rowCount s k) (rowFrom s k)
+
+  struck-row : (l : List Formula) (k : ℕ) → badLogRow (strike s) l k ≡ badAction l (rowAction (strike s) k) || spanFaulty k || observersFaulty k
+  unfolding badLogRow spanFaulty observersFaulty
+  struck-row l k = rw (same-from, same-len, same-observers, same-count log-part (omega arith), same-count observer-part (omega arith))
+
+  absent-good : (l : List Formula) {a : ℕ} → a ≡ absent → badAction l a ≡ false
+  unfolding badAction
+  absent-good l e = rw e
+
   row-stays-good : (l : List Formula) (k : ℕ) → k < count s log-part → badLogRow s l k ≡ false → badLogRow (strike s) l k ≡ false
-  unfolding badLogRow badAction
-  row-stays-good l k h fine =
-      rw (same-from, same-len, same-observers, same-count log-part (omega arith), same-count observer-part (omega arith)) (go (isSeen s k) refl)
+  unfolding badLogRow spanFaulty observersFaulty
+  row-stays-good l k h fine = struck-row l k ∙ go (isSeen s k) refl
     where
-      spans : Bool
-      spans = badSpan (rowFrom s) (rowCount s) (count s log-part) (count s observer-part) k
-
-      entries : Bool
-      entries = any (badObserver s (rowFrom s k)) (rowCount s k) (rowFrom s k)
-
       others : (a b c : Bool) → a || b || c ≡ false → b || c ≡ false
       others true b c e = absurd (false≢true (sym e))
       others false b c e = e
 
-      go : (b : Bool) → isSeen s k ≡ b → badAction l (rowAction (strike s) k) || spans || entries ≡ false
+      go : (b : Bool) → isSeen s k ≡ b → badAction l (rowAction (strike s) k) || spanFaulty k || observersFaulty k ≡ false
       go true e = rw (seen-action k e) fine
-      go false e = rw (unseen-action k h e) (others (badAction l (rowAction s k)) spans entries fine)
+      go false e = rw (absent-good l (unseen-action k h e)) (others (badAction l (rowAction s k)) (spanFaulty k) (observersFaulty k) fine)
+
+  -- A row that is at fault stays so, unless striking it out mends it.
+  row-stays-bad : (l : List Formula) (k : ℕ) → k < count s log-part → badLogRow s l k ≡ true → (badLogRow (strike s) l k ≡ true) ⊎ ((isSeen s k ≡ false) × (badAction l (rowAction s k) ≡ true))
+  unfolding badLogRow spanFaulty observersFaulty
+  row-stays-bad l k h bad = go (isSeen s k) (badAction l (rowAction s k)) refl refl
+    where
+      go : (b a : Bool) → isSeen s k ≡ b → badAction l (rowAction s k) ≡ a → (badLogRow (strike s) l k ≡ true) ⊎ ((isSeen s k ≡ false) × (badAction l (rowAction s k) ≡ true))
+      go true a e f = inl (struck-row l k ∙ rw (seen-action k e) bad)
+      go false true e f = inr (e, f)
+      go false false e f = inl (struck-row l k ∙ ap (λ c. c || spanFaulty k || observersFaulty k) (absent-good l (unseen-action k h e) ∙ sym f) ∙ bad)
 
   -- A log that check 5 lets pass stays so.
   pub log-stays-good : formulas s ≡ formulas (strike s) → AllHold (logChecks s) → AllHold (logChecks (strike s))
@@ -232,23 +250,6 @@ module _ (s : List ℕ) (f : Parted s) where
   log-stays-good trees h =
       let rows = same-count log-part (omega arith) in
       rw (← trees) (λ k below. row-stays-good (formulas s) k (omega arith) (h .0 k (omega arith)), tt)
-
-  -- A row that is at fault stays so, unless striking it out mends it.
-  absent-good : (l : List Formula) {a : ℕ} → a ≡ absent → badAction l a ≡ false
-  unfolding badAction
-  absent-good l e = rw e
-
-  row-stays-bad : (l : List Formula) (k : ℕ) → k < count s log-part → badLogRow s l k ≡ true → (badLogRow (strike s) l k ≡ true) ⊎ ((isSeen s k ≡ false) × (badAction l (rowAction s k) ≡ true))
-  unfolding badLogRow
-  row-stays-bad l k h bad = go (isSeen s k) (badAction l (rowAction s k)) refl refl
-    where
-      same-rest : badLogRow (strike s) l k ≡ badAction l (rowAction (strike s) k) || badSpan (rowFrom s) (rowCount s) (count s log-part) (count s observer-part) k || any (badObserver s (rowFrom s k)) (rowCount s k) (rowFrom s k)
-      same-rest = rw (same-from, same-len, same-observers, same-count log-part (omega arith), same-count observer-part (omega arith))
-
-      go : (b a : Bool) → isSeen s k ≡ b → badAction l (rowAction s k) ≡ a → (badLogRow (strike s) l k ≡ true) ⊎ ((isSeen s k ≡ false) × (badAction l (rowAction s k) ≡ true))
-      go true a e f = inl (same-rest ∙ rw (seen-action k e) bad)
-      go false true e f = inr (e, f)
-      go false false e f = inl (same-rest ∙ ap (λ c. c || badSpan (rowFrom s) (rowCount s) (count s log-part) (count s observer-part) k || any (badObserver s (rowFrom s k)) (rowCount s k) (rowFrom s k)) (absent-good l (unseen-action k h e) ∙ sym f) ∙ bad)
 
   pub log-stays-bad : formulas s ≡ formulas (strike s) → (n p : ℕ) → FirstFault (logChecks s) n p → FirstFault (logChecks (strike s)) n p ⊎ ((n ≡ 5) × (isSeen s p ≡ false) × (badAction (formulas s) (rowAction s p) ≡ true))
   unfolding logChecks

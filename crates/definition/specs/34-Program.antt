@@ -1,4 +1,5 @@
 -- The program: it reads a case from standard input, and prints the answer to what it has read. What cannot be read whole is not judged: a part of a case is another case.
+-- The statements at the end are proved in proofs/ReadingLaws and proofs/RoomLaws.
 use Prim.Native.Nat.{ℕ, _+_, _≤_, _<_}
 use mathlib.Core.Path.{_≡_}
 use mathlib.Core.Logic.{_⊎_}
