@@ -1,4 +1,4 @@
-//! Document 01's examples: rows 1 to 23 of its table, and the desk cases.
+//! Document 01's examples: the rows of its table, and the desk cases.
 
 use std::fs;
 use std::path::Path;
@@ -19,7 +19,7 @@ pub fn examples() -> Vec<Vector> {
     all
 }
 
-/// Rows 1 to 11 of the table.
+/// The rows of the table for the checks before the steps.
 fn admission_rows() -> Vec<Vector> {
     let empty = Vector { file: Vec::new(), ..refused("row 1: empty", grant(), 1, 0) };
     let first_offset = grant().change(|case| case.header[0] = Some((35, 40)));
@@ -47,7 +47,7 @@ fn admission_rows() -> Vec<Vector> {
     ]
 }
 
-/// Rows 12 to 19 of the table.
+/// The rows of the table for the checks of a step.
 fn step_rows() -> Vec<Vector> {
     let rule = grant().change(|case| case.steps[0].rule = 16);
     let premise = grant().change(|case| case.steps[1].premises = vec![1]);
@@ -67,7 +67,7 @@ fn step_rows() -> Vec<Vector> {
     ]
 }
 
-/// Rows 20 to 23 of the table.
+/// The rows of the table for the checks after the last step.
 fn end_rows() -> Vec<Vector> {
     let doubled = grant().change(|case| case.steps.insert(1, case.steps[0].clone()));
     let seen_alone = grant().change(|case| case.steps.truncate(1));

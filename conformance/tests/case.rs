@@ -1,11 +1,12 @@
 //! The proved admission of case files against the separate checker.
 
-use std::collections::BTreeMap;
+use std::collections::{BTreeMap, BTreeSet};
 use std::thread;
 
 use conformance::builder::{data, CaseFile, FormulaRow, LogRow, Step};
 use conformance::cases::{examples_and_vectors, grant, twice, visit};
 use conformance::checker::{admit, ABSENT, HEADER_BYTES, PARTS};
+use conformance::desk::words::{number_of, refusals};
 use conformance::proved;
 use conformance::random::{damage, fitting_book, Random};
 
@@ -59,15 +60,18 @@ fn full() -> CaseFile {
     case
 }
 
+/// The numbers of the header's list up to that of the admission's last check.
+fn admission_refusals() -> BTreeSet<u16> {
+    let numbers = refusals().iter().map(|refusal| refusal.number);
+    numbers.filter(|number| *number <= number_of("BAD_AUDIT")).collect()
+}
+
 #[test]
 fn every_example_and_vector() {
-    let mut refused = [0; 10];
-    for vector in examples_and_vectors() {
-        if let Err((number, _)) = agree(&vector.file) {
-            refused[number as usize] += 1;
-        }
-    }
-    assert!(refused[1..].iter().all(|count| *count > 0), "{refused:?}");
+    let vectors = examples_and_vectors();
+    let answers = vectors.iter().map(|vector| agree(&vector.file));
+    let refused = answers.filter_map(|answer| answer.err().map(|(number, _)| number)).collect();
+    assert!(admission_refusals().is_subset(&refused), "{refused:?}");
 }
 
 #[test]
@@ -231,13 +235,11 @@ fn random_and_damaged_files() {
             1 => damage(&random_case(&mut random).to_bytes(), &mut random),
             _ => damage(&vectors[turn % vectors.len()].file, &mut random),
         };
-        let number = agree(&file).map_or_else(|(number, _)| number, |()| 0);
+        let number = agree(&file).err().map(|(number, _)| number);
         *answers.entry(number).or_insert(0) += 1;
     }
-    assert!(
-        (0..=9).all(|number| answers.get(&number).is_some_and(|count| *count > 20)),
-        "{answers:?}"
-    );
+    let mut due = admission_refusals().into_iter().map(Some).chain([None]);
+    assert!(due.all(|answer| answers.get(&answer) > Some(&20)), "{answers:?}");
 }
 
 /// All tables and walks of the largest files fit a stack of 64 KiB, with the thread's own frames.

@@ -7,7 +7,7 @@ use conformance::cases::{examples, examples_and_vectors, grant, vector_files};
 use conformance::checker::{check, strike_unseen, Verdict, ABSENT};
 use conformance::desk::words::refusals;
 use conformance::random::{damage, Random};
-use conformance::rooms::{answer, PATTERN};
+use conformance::rooms::{answer, room_too_short, PATTERN};
 use conformance::vectors::Vector;
 
 fn run(file: &[u8], entries: usize) -> (Verdict, Vec<u16>) {
@@ -22,10 +22,11 @@ fn assert_agrees(vector: &Vector) {
     assert_eq!(run(&vector.file, vector.room), expected, "{}", vector.name);
 }
 
+/// One for each refusal, and seven desk cases.
 #[test]
 fn examples_of_document_01() {
     let all = examples();
-    assert!(all.len() >= 23 + 7);
+    assert!(all.len() >= refusals().len() + 7, "{}", all.len());
     all.iter().for_each(assert_agrees);
 }
 
@@ -44,14 +45,21 @@ fn vectors_agree() {
     all.iter().for_each(assert_agrees);
 }
 
-#[test]
-fn every_refusal_occurs() {
-    let numbers = examples_and_vectors().into_iter().filter_map(|vector| match vector.verdict {
+/// The numbers of the refusals among these.
+fn refused(vectors: &[Vector]) -> BTreeSet<u16> {
+    let numbers = vectors.iter().filter_map(|vector| match vector.verdict {
         Verdict::Refused { number, .. } => Some(number),
         _ => None,
     });
-    let listed = refusals().iter().map(|refusal| refusal.number);
-    assert_eq!(numbers.collect::<BTreeSet<u16>>(), listed.collect());
+    numbers.collect()
+}
+
+/// Each refusal of the header's list has an example, and no vector has another.
+#[test]
+fn every_refusal_occurs() {
+    let listed = refusals().iter().map(|refusal| refusal.number).collect();
+    assert_eq!(refused(&examples()), listed);
+    assert_eq!(refused(&examples_and_vectors()), listed);
 }
 
 /// Striking what the agent does not see changes no verdict and no room, unless the file falls
@@ -104,7 +112,7 @@ fn shortest_rooms() {
         let needed = vector.written.len();
         assert_eq!(run(&vector.file, needed), (vector.verdict, vector.written));
         if needed > 0 {
-            let refused = Verdict::Refused { number: 23, place: needed as u16 };
+            let refused = Verdict::Refused { number: room_too_short(), place: needed as u16 };
             assert_eq!(run(&vector.file, needed - 1), (refused, vec![PATTERN; needed - 1]));
         }
     }

@@ -1,6 +1,7 @@
 //! The two programs over the proved library, on every example: the C console, which is built here
 //! with `cc`, and document 01's program. And the C header by itself.
 
+use std::collections::BTreeSet;
 use std::fs::{self, File};
 use std::io::{Seek, Write};
 use std::iter::once;
@@ -9,9 +10,11 @@ use std::os::unix::net::{UnixDatagram, UnixStream};
 use std::path::{Path, PathBuf};
 use std::process::{Child, Command, Output, Stdio};
 
+use conformance::cases::{self, ROOM};
 use conformance::checker::{Verdict, MOST_BYTES};
-use conformance::desk::words::words;
+use conformance::desk::words::{refusals, words};
 use conformance::examples::{all, folder, output};
+use conformance::rooms::room_too_short;
 use conformance::streams;
 use conformance::vectors::Vector;
 
@@ -63,6 +66,20 @@ fn header_by_itself() {
     }
 }
 
+/// The manual in the header tells each refusal of the list, as a paragraph that begins with its
+/// number.
+#[test]
+fn manual_in_the_header() {
+    let header = fs::read_to_string(project("include/justification.h")).expect("it is there");
+    let (manual, _) = header.split_once("#define JUSTIFICATION_REFUSALS").expect("a list");
+    let told = manual.lines().filter_map(|line| {
+        let (number, words) = line.strip_prefix("** ")?.trim_start().split_once("  ")?;
+        number.parse().ok().filter(|_| !words.is_empty())
+    });
+    let listed = refusals().iter().map(|refusal| refusal.number);
+    assert_eq!(told.collect::<Vec<u16>>(), listed.collect::<Vec<u16>>());
+}
+
 /// The exit status, the verdict in the first line, and then the words that `show-case` has too.
 fn assert_console_says(output: &Output, example: &Vector) {
     let status = match example.verdict {
@@ -86,6 +103,20 @@ fn console_on_examples() {
         let named = Command::new(&console).arg(file).output().expect("the console starts");
         assert_console_says(&named, &example);
     }
+}
+
+/// The console has the words of every refusal but that of a short room, which it never lends.
+#[test]
+fn console_on_every_refusal() {
+    let console = console("refusals");
+    let mut said = BTreeSet::from([room_too_short()]);
+    for example in cases::examples().into_iter().filter(|example| example.room == ROOM) {
+        assert_console_says(&run(&console, &example.file), &example);
+        if let Verdict::Refused { number, .. } = example.verdict {
+            said.insert(number);
+        }
+    }
+    assert_eq!(said, refusals().iter().map(|refusal| refusal.number).collect());
 }
 
 #[test]

@@ -20,6 +20,7 @@ pub const PARTS: [&str; 8] = [
 /// is wrong.
 pub struct Meaning {
     pub number: u16,
+    pub name: String,
     pub counts: String,
     pub wrong: String,
 }
@@ -36,15 +37,24 @@ pub fn meaning(number: u16) -> &'static Meaning {
     known.expect("the header lists every refusal")
 }
 
+/// The number of the refusal that the header calls so.
+pub fn number_of(name: &str) -> u16 {
+    let known = refusals().iter().find(|refusal| refusal.name == name);
+    known.unwrap_or_else(|| panic!("the header lists no {name}")).number
+}
+
 /// The macro's entries: `REFUSAL(number, name, counts, meaning)`, the last of one literal or more.
 fn listed(header: &str) -> Vec<Meaning> {
     let (_, list) = header.split_once("#define JUSTIFICATION_REFUSALS(REFUSAL)").expect("a list");
     let (list, _) = list.split_once("\n\n").expect("its end");
     let entries = list.split("REFUSAL(").skip(1).map(|entry| {
         let (number, rest) = entry.split_once(',').expect("a number");
+        let number = number.parse().expect("a number");
+        let (name, rest) = rest.split_once(',').expect("a name");
+        let name = name.trim().to_string();
         let mut words = literals(rest).into_iter();
         let counts = words.next().expect("what the place counts");
-        Meaning { number: number.parse().expect("a number"), counts, wrong: words.collect() }
+        Meaning { number, name, counts, wrong: words.collect() }
     });
     entries.collect()
 }
