@@ -60,10 +60,11 @@ fn full() -> CaseFile {
     case
 }
 
-/// The numbers of the header's list up to that of the admission's last check.
+/// The numbers of the header's list up to the admission's last check, by their order there.
 fn admission_refusals() -> BTreeSet<u16> {
-    let numbers = refusals().iter().map(|refusal| refusal.number);
-    numbers.filter(|number| *number <= number_of("BAD_AUDIT")).collect()
+    let last = refusals().iter().position(|refusal| refusal.name == "BAD_AUDIT");
+    let last = last.expect("the header lists the admission's last check");
+    refusals()[..=last].iter().map(|refusal| refusal.number).collect()
 }
 
 #[test]

@@ -8,12 +8,12 @@ use Rattle.definition.specs.14-Book.{treeIn, book}
 use Rattle.case_file.specs.Booked.{Booked}
 use Rattle.definition.specs.15-Records.{formulas}
 
-pub named : {s b : List ℕ} {n v w : ℕ} → Booked s b n → v ≡ w → treeIn (book b) v ≡ treeIn (formulas s) w
+pub named : {s b : List ℕ} {v w : ℕ} → Booked s b → v ≡ w → treeIn (book b) v ≡ treeIn (formulas s) w
 unfolding formulas
 named k e = cc (k .is, e)
 
 pub closed-named :
-    {s b : List ℕ} {n v w : ℕ} {q : Bool} (is : Formula → Bool) → Booked s b n → v ≡ w →
+    {s b : List ℕ} {v w : ℕ} {q : Bool} (is : Formula → Bool) → Booked s b → v ≡ w →
     q ≡ is (treeIn (book b) v) && closed (treeIn (book b) v) → q ≡ closed (treeIn (formulas s) w) && is (treeIn (formulas s) w)
-closed-named {s} {b} {n} {v} {w} is k e answer =
+closed-named {s} {b} {v} {w} is k e answer =
     answer ∙ and-comm (is (treeIn (book b) v)) (closed (treeIn (book b) v)) ∙ ap (λ (f : Formula). closed f && is f) (named k e)

@@ -1,34 +1,36 @@
 -- What an admitted file that is lent to the code has: parts, and a book of formulas. Assumes nothing.
-use Prim.Native.Nat.{ℕ, _≤_}
+use Prim.Native.Nat.{ℕ, _≤_, _<_}
 use mathlib.Core.Path.{_≡_}
 use mathlib.Core.List.{List}
 use native.Mathlib.Omega.{arith}
-use Rattle.definition.specs.14-Book.{book}
+use Rattle.definition.specs.14-Book.{book, bookRows}
 use Rattle.definition.specs.11-Layout.{formula-part, log-part, obligation-part, label-part, step-part, premise-part, count, mostRecords}
-use Rattle.definition.specs.15-Records.{formulas}
+use Rattle.definition.specs.15-Records.{logOf, rowsIn, formulas}
 use Rattle.definition.specs.18-Admission.{Parted}
-use Rattle.case_file.specs.Booked.{Booked}
-use Rattle.definition.proofs.AdmissionLaws.{admitted-parted}
-use Rattle.case_file.proofs.Laws.{admitted-booked}
-use Rattle.definition.proofs.PartLaws.{part-few}
-use Rattle.case_file.specs.LentCase.{Lent}
+use Rattle.definition.proofs.PartLaws.{part-few, log-rows}
+use Rattle.case_file.specs.LentCase.{Lent, Numbered}
+use Rattle.case_file.proofs.AdmissionBranches.{rows-are}
 
 module _ {s b : List ℕ} (lent : Lent s b) where
   pub parted : Parted s
-  parted = admitted-parted s (lent .admitted)
-
-  pub booked : Booked s b (count s formula-part)
-  booked = rw (lent .book) (admitted-booked s (lent .admitted))
+  parted = lent .booked .parted
 
   pub lent-trees : book b ≡ formulas s
   unfolding formulas
-  lent-trees = rw (lent .book)
+  lent-trees = rw (lent .booked .is)
+
+  -- the formulas of the file are those of the book
+  pub lent-rows : bookRows b ≡ count s formula-part
+  lent-rows = rw (lent .booked .is) (rows-are s parted)
+
+  pub numbered : {k : ℕ} → k < count s formula-part → Numbered b k
+  numbered lt = record { book = lent .booked .book; below = rw lent-rows lt }
 
 -- The limits of the parts.
 module _ (s : List ℕ) (h : Parted s) where
-  pub rows-few : count s log-part ≤ 1024
+  pub rows-few : rowsIn (logOf s) ≤ 1024
   unfolding mostRecords
-  rows-few = part-few s h log-part (omega arith)
+  rows-few = rw (log-rows s h) (part-few s h log-part (omega arith))
 
   pub obligations-few : count s obligation-part ≤ 64
   unfolding mostRecords

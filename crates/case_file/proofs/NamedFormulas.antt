@@ -13,12 +13,12 @@ use Rattle.definition.specs.12-Terms.{agents, classOf, isObject}
 use Rattle.definition.specs.13-Formulas.{Formula, no-formula, isPolicy, isAction, isPredicate, closed, ground}
 use Rattle.definition.specs.14-Book.{treeIn}
 use Rattle.formula_book.proofs.Laws.{number-inside}
-use Rattle.definition.specs.11-Layout.{formula-part, log-part, condition-part, obligation-part, label-part, part, count, agentOf, actionOf}
-use Rattle.definition.specs.15-Records.{formulas, rowAction, conditionFormula, obligationMark, obligationAction, labelMark, labelFormula, isGroundAction, isDuty, badAction, badLogRow, badCondition, badObligation, badLabel, badAudit}
+use Rattle.definition.specs.11-Layout.{formula-part, condition-part, obligation-part, label-part, part, count, agentOf, actionOf}
+use Rattle.definition.specs.15-Records.{logOf, rowsIn, formulas, rowAction, conditionFormula, obligationMark, obligationAction, labelMark, labelFormula, isGroundAction, isDuty, badAction, badLogRow, badCondition, badObligation, badLabel, badAudit}
 use Rattle.definition.specs.16-Views.{RowView, hidden, struck, shows, isSeen, viewOf, rowView}
 use Rattle.definition.specs.18-Admission.{admission}
-use Rattle.definition.proofs.AdmissionLaws.{admitted-parted, admitted-book, admitted-rows, admitted-condition, admitted-obligation, admitted-label, admitted-audit}
-use Rattle.case_file.proofs.AdmissionBranches.{booked}
+use Rattle.definition.proofs.AdmissionLaws.{admitted-parted, admitted-logged, logged-rows, admitted-condition, admitted-obligation, admitted-label, admitted-audit}
+use Rattle.case_file.proofs.AdmissionBranches.{rows-are}
 
 -- What a view shows is the action of its row, which is there.
 isShown : RowView → Bool
@@ -36,17 +36,16 @@ view-shows l true a f e = go (eqb a absent) e
     go false q = (refl, cc)
 
 module _ (s : List ℕ) (is : admission s ≡ accepts tt) where
-  inside : (k : ℕ) (test : Formula → Bool) → test no-formula ≡ false → test (treeIn (formulas s) k) ≡ true → k < count s formula-part
+  pub formula-named : (k : ℕ) (test : Formula → Bool) → test no-formula ≡ false → test (treeIn (formulas s) k) ≡ true → k < count s formula-part
   unfolding formulas
-  inside k test =
-      number-inside (part s formula-part) (count s formula-part) k test (booked s (admitted-parted s is) refl refl (sym (admitted-book s is)) .passes)
+  formula-named k test none here = rw (rows-are s (admitted-parted s is)) at (number-inside (part s formula-part) k test none here)
 
   pub obligation-named : (k : ℕ) → k < count s obligation-part → obligationAction s k < count s formula-part
   unfolding badObligation isGroundAction isAction
   obligation-named k lt =
       let f = treeIn (formulas s) (obligationAction s k) in
       let good = and-true (isDuty (obligationMark s k)) (isGroundAction f) (not-false _ (admitted-obligation s is k lt)) .1 in
-      inside (obligationAction s k) isAction refl (and-true (isAction f) (ground f) good .0)
+      formula-named (obligationAction s k) isAction refl (and-true (isAction f) (ground f) good .0)
 
   pub label-named : (k : ℕ) → k < count s label-part → labelFormula s k < count s formula-part
   unfolding badLabel isPolicy isAction
@@ -54,8 +53,8 @@ module _ (s : List ℕ) (is : admission s ≡ accepts tt) where
       let f = treeIn (formulas s) (labelFormula s k) in
       let m = labelMark s k in
       let good = and-true (closed f) ((eqb m 0 && isPolicy f) || (isDuty m && isAction f)) (not-false _ (admitted-label s is k lt)) .1 in
-      ⊎-elim (λ h. inside (labelFormula s k) isPolicy refl (and-true (eqb m 0) (isPolicy f) h .1))
-      (λ h. inside (labelFormula s k) isAction refl (and-true (isDuty m) (isAction f) h .1))
+      ⊎-elim (λ h. formula-named (labelFormula s k) isPolicy refl (and-true (eqb m 0) (isPolicy f) h .1))
+      (λ h. formula-named (labelFormula s k) isAction refl (and-true (isDuty m) (isAction f) h .1))
       (or-true (eqb m 0 && isPolicy f) (isDuty m && isAction f) good)
 
   pub condition-named : (k : ℕ) → k < count s condition-part → eqb (conditionFormula s k) absent ≡ false → conditionFormula s k < count s formula-part
@@ -63,7 +62,7 @@ module _ (s : List ℕ) (is : admission s ≡ accepts tt) where
   condition-named k lt there =
       let f = treeIn (formulas s) (conditionFormula s k) in
       ⊎-elim (λ e. absurd (not-both e there))
-      (λ h. inside (conditionFormula s k) isPredicate refl (and-true (isPredicate f) (ground f) h .0))
+      (λ h. formula-named (conditionFormula s k) isPredicate refl (and-true (isPredicate f) (ground f) h .0))
       (or-true (eqb (conditionFormula s k) absent) (isPredicate f && ground f) (not-false _ (admitted-condition s is k lt)))
 
   pub audit-named : actionOf s < count s formula-part
@@ -71,16 +70,16 @@ module _ (s : List ℕ) (is : admission s ≡ accepts tt) where
   audit-named =
       let f = treeIn (formulas s) (actionOf s) in
       let good = and-true (isObject agents (classOf (agentOf s))) (isGroundAction f) (not-false _ (admitted-audit s is)) .1 in
-      inside (actionOf s) isAction refl (and-true (isAction f) (ground f) good .0)
+      formula-named (actionOf s) isAction refl (and-true (isAction f) (ground f) good .0)
 
   -- The number of an action that a row shows to the agent.
-  pub shown-named : (k a : ℕ) → k < count s log-part → rowView s (formulas s) k ≡ shows (treeIn (formulas s) a) → a < count s formula-part
+  pub shown-named : (k a : ℕ) → k < rowsIn (logOf s) → rowView (logOf s) (agentOf s) (formulas s) k ≡ shows (treeIn (formulas s) a) → a < count s formula-part
   unfolding rowView badLogRow badAction isGroundAction isAction
   shown-named k a lt e =
-      let row = rowAction s k in
+      let row = rowAction (logOf s) k in
       let f = treeIn (formulas s) row in
-      let v = view-shows (formulas s) (ltb k (count s log-part) && isSeen s k) row (treeIn (formulas s) a) e in
-      let parts = or-false _ _ (admitted-rows s is k lt) in
+      let v = view-shows (formulas s) (ltb k (rowsIn (logOf s)) && isSeen s k) row (treeIn (formulas s) a) e in
+      let parts = or-false _ _ (logged-rows s (admitted-logged s is) k lt) in
       let good = not-false (eqb row absent || isGroundAction f) (or-false _ _ (parts .0) .0) in
-      inside a isAction refl
+      formula-named a isAction refl
       (⊎-elim (λ w. absurd (not-both w (v .0))) (λ w. ap isAction (sym (v .1)) ∙ and-true (isAction f) (ground f) w .0) (or-true (eqb row absent) (isGroundAction f) good))

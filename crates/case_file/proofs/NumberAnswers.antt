@@ -7,7 +7,7 @@ use lib.ListN.{length}
 use lib.Dec.{eqb, ltb, leb}
 use Rattle.definition.proofs.Tests.{both-first, both-second}
 use Rattle.definition.specs.13-Formulas.{Formula, no-formula, isPolicy, isAction, isPredicate}
-use Rattle.definition.specs.14-Book.{Row, rowAt, treeIn, book}
+use Rattle.definition.specs.14-Book.{Row, rowAt, bookRows, treeIn, book}
 use Rattle.formula_book.specs.GoodRows.{GoodRow}
 use Rattle.formula_book.specs.AdmittedBooks.{AdmittedBook}
 use Rattle.formula_rows.specs.Meanings.{rowMeant}
@@ -31,22 +31,22 @@ pub predicates : Kind (λ n. eqb n 0) isPredicate
 unfolding isPredicate
 predicates = record { none = refl; told = row-predicate }
 
--- Number k, in an admitted book of n rows.
-module _ (s : List ℕ) (n k : ℕ) (passes : AdmittedBook s n) where
-  -- The row of a number below n may be read, and asked about.
-  pub row-good : k < n → GoodRow s k
-  row-good lt = admitted-row s n passes k lt
+-- Number k, in an admitted book.
+module _ (s : List ℕ) (k : ℕ) (passes : AdmittedBook s) where
+  -- The row of a number of the book may be read, and asked about.
+  pub row-good : k < bookRows s → GoodRow s k
+  row-good lt = admitted-row s passes k lt
 
-  pub row-inside : k < n → 8 * k + 8 ≤ length s
+  pub row-inside : k < bookRows s → 8 * k + 8 ≤ length s
   row-inside lt = good-inside (row-good lt)
 
   module _ {test : ℕ → Bool} {is : Formula → Bool} (kind : Kind test is) where
     -- The three answers. `also` is the further test.
-    pub not-beyond : (also : Bool) → n ≤ k → false ≡ is (treeIn (book s) k) && also
-    not-beyond also le = both-first also (sym (ap is (beyond s n k passes le) ∙ kind .none)) refl
+    pub not-beyond : (also : Bool) → bookRows s ≤ k → false ≡ is (treeIn (book s) k) && also
+    not-beyond also le = both-first also (sym (ap is (beyond s k le) ∙ kind .none)) refl
 
     -- The row as it was read.
-    module _ (lt : k < n) (r : rows.Row) (e : rowMeant r ≡ rowAt s k) where
+    module _ (lt : k < bookRows s) (r : rows.Row) (e : rowMeant r ≡ rowAt s k) where
       kind-is : test (r .kind) ≡ is (treeIn (book s) k)
       unfolding rowMeant
       kind-is = ap (λ (q : Row). test (q .kind)) e ∙ sym (kind .told s k (row-good lt))

@@ -4,7 +4,7 @@ use mathlib.Core.List.{List}
 use Rattle.definition.specs.04-Checks.{Checked, _>>_, inOrder}
 use Rattle.definition.specs.11-Layout.{formula-part, part, layoutChecks}
 use Rattle.definition.specs.14-Book.{bookChecks}
-use Rattle.definition.specs.15-Records.{logChecks, recordChecks}
+use Rattle.definition.specs.15-Records.{logOf, formulas, logChecks}
 
 -- Checks 1 to 4.
 unfoldable pub beforeLog : List ℕ → Checked (Unit {0})
@@ -12,14 +12,8 @@ beforeLog s = do
   inOrder (layoutChecks s)
   inOrder (bookChecks (part s formula-part))
 
--- Checks 5 to 9.
-unfoldable pub fromLog : List ℕ → Checked (Unit {0})
-fromLog s = do
-  inOrder (logChecks s)
-  inOrder (recordChecks s)
-
--- Checks 3 to 9.
+-- Checks 3 to 5.
 unfoldable pub fromBook : List ℕ → Checked (Unit {0})
 fromBook s = do
   inOrder (bookChecks (part s formula-part))
-  fromLog s
+  inOrder (logChecks (logOf s) (formulas s))

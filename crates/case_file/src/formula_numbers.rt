@@ -6,12 +6,12 @@ ghost use Rattle.definition.specs.14-Book.{treeIn, book as trees};
 ghost use Rattle.formula_book.specs.AdmittedBooks.{AdmittedBook};
 ghost use Rattle.definition.specs.15-Records.{isGroundAction};
 
-pub fn ground_action(book: &[u8], rows: usize, n: u16) -> bool
-    requires { ⌜ AdmittedBook (now book) rows ⌝ }
+pub fn ground_action(book: &[u8], n: u16) -> bool
+    requires { ⌜ AdmittedBook (now book) ⌝ }
     ensures { λ r. ⌜ r ≡ isGroundAction (treeIn (trees (now (book .entry))) n) ⌝ }
 {
     let at = n as usize;
-    if rows <= at {
+    if book.len() / 8 <= at {
         return false;
     }
     let row = formula_rows::row_at(book, at);
@@ -21,12 +21,12 @@ pub fn ground_action(book: &[u8], rows: usize, n: u16) -> bool
     formula_book::is_ground(book, at)
 }
 
-pub fn ground_predicate(book: &[u8], rows: usize, n: u16) -> bool
-    requires { ⌜ AdmittedBook (now book) rows ⌝ }
+pub fn ground_predicate(book: &[u8], n: u16) -> bool
+    requires { ⌜ AdmittedBook (now book) ⌝ }
     ensures { λ r. ⌜ r ≡ (isPredicate (treeIn (trees (now (book .entry))) n) && ground (treeIn (trees (now (book .entry))) n)) ⌝ }
 {
     let at = n as usize;
-    if rows <= at {
+    if book.len() / 8 <= at {
         return false;
     }
     let row = formula_rows::row_at(book, at);
@@ -36,12 +36,12 @@ pub fn ground_predicate(book: &[u8], rows: usize, n: u16) -> bool
     formula_book::is_ground(book, at)
 }
 
-pub fn closed_policy(book: &[u8], rows: usize, n: u16) -> bool
-    requires { ⌜ AdmittedBook (now book) rows ⌝ }
+pub fn closed_policy(book: &[u8], n: u16) -> bool
+    requires { ⌜ AdmittedBook (now book) ⌝ }
     ensures { λ r. ⌜ r ≡ (isPolicy (treeIn (trees (now (book .entry))) n) && closed (treeIn (trees (now (book .entry))) n)) ⌝ }
 {
     let at = n as usize;
-    if rows <= at {
+    if book.len() / 8 <= at {
         return false;
     }
     let row = formula_rows::row_at(book, at);
@@ -51,12 +51,12 @@ pub fn closed_policy(book: &[u8], rows: usize, n: u16) -> bool
     formula_book::is_closed(book, at)
 }
 
-pub fn closed_action(book: &[u8], rows: usize, n: u16) -> bool
-    requires { ⌜ AdmittedBook (now book) rows ⌝ }
+pub fn closed_action(book: &[u8], n: u16) -> bool
+    requires { ⌜ AdmittedBook (now book) ⌝ }
     ensures { λ r. ⌜ r ≡ (isAction (treeIn (trees (now (book .entry))) n) && closed (treeIn (trees (now (book .entry))) n)) ⌝ }
 {
     let at = n as usize;
-    if rows <= at {
+    if book.len() / 8 <= at {
         return false;
     }
     let row = formula_rows::row_at(book, at);

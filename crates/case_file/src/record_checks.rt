@@ -10,10 +10,8 @@ use case_parts::action_of;
 use case_parts::agent_of;
 use case_parts::condition_formula;
 use case_parts::count_of;
-use case_parts::label_formula;
-use case_parts::label_mark;
-use case_parts::obligation_action;
-use case_parts::obligation_mark;
+use case_parts::label_at;
+use case_parts::obligation_at;
 use formula_rows::Term;
 use words::Failure;
 ghost use mathlib.Core.Path.{_≡_};
@@ -21,15 +19,14 @@ ghost use Prim.Native.Nat.{_<_, _≤_};
 ghost use Rattle.definition.specs.02-Ranges.{lowest};
 ghost use Rattle.definition.specs.04-Checks.{inOrder};
 ghost use Rattle.definition.specs.11-Layout.{count, condition-part, obligation-part, label-part};
-ghost use Rattle.definition.specs.18-Admission.{Parted};
 ghost use Rattle.case_file.specs.Booked.{Booked};
 ghost use Rattle.definition.specs.15-Records.{formulas as formulasOf, isDuty, badCondition, badObligation, badLabel, badAudit, recordChecks};
 ghost use Rattle.words.specs.Meanings.{failureMeant};
 ghost use Rattle.case_file.specs.Entries.{badEntry};
 
 // Check 6 of entry `k`. An absent condition is no fault.
-fn bad_condition(file: &[u8], book: &[u8], formulas: usize, k: usize) -> bool
-    requires { ⌜ Parted (now file) × Booked (now file) (now book) formulas ⌝ }
+fn bad_condition(file: &[u8], book: &[u8], k: usize) -> bool
+    requires { ⌜ Booked (now file) (now book) ⌝ }
     requires { ⌜ k < count (now file) condition-part ⌝ }
     ensures { λ r. ⌜ r ≡ badCondition (now (file .entry)) (formulasOf (now (file .entry))) k ⌝ }
 {
@@ -37,7 +34,7 @@ fn bad_condition(file: &[u8], book: &[u8], formulas: usize, k: usize) -> bool
     if condition == Term::ABSENT {
         return false;
     }
-    !ground_predicate(book, formulas, condition)
+    !ground_predicate(book, condition)
 }
 
 // Each use, or once.
@@ -51,61 +48,59 @@ fn is_duty(mark: u16) -> bool
 }
 
 // Check 7 of entry `k`.
-fn bad_obligation(file: &[u8], book: &[u8], formulas: usize, k: usize) -> bool
-    requires { ⌜ Parted (now file) × Booked (now file) (now book) formulas ⌝ }
+fn bad_obligation(file: &[u8], book: &[u8], k: usize) -> bool
+    requires { ⌜ Booked (now file) (now book) ⌝ }
     requires { ⌜ k < count (now file) obligation-part ⌝ }
     ensures { λ r. ⌜ r ≡ badObligation (now (file .entry)) (formulasOf (now (file .entry))) k ⌝ }
 {
-    let mark = obligation_mark(file, k);
-    if !is_duty(mark) {
+    let duty = obligation_at(file, k);
+    if !is_duty(duty.mark) {
         return true;
     }
-    let duty = obligation_action(file, k);
-    !ground_action(book, formulas, duty)
+    !ground_action(book, duty.action)
 }
 
 // Check 8 of entry `k`.
-fn bad_label(file: &[u8], book: &[u8], formulas: usize, k: usize) -> bool
-    requires { ⌜ Parted (now file) × Booked (now file) (now book) formulas ⌝ }
+fn bad_label(file: &[u8], book: &[u8], k: usize) -> bool
+    requires { ⌜ Booked (now file) (now book) ⌝ }
     requires { ⌜ k < count (now file) label-part ⌝ }
     ensures { λ r. ⌜ r ≡ badLabel (now (file .entry)) (formulasOf (now (file .entry))) k ⌝ }
 {
-    let mark = label_mark(file, k);
-    let formula = label_formula(file, k);
-    if mark == 0 {
-        return !closed_policy(book, formulas, formula);
+    let label = label_at(file, k);
+    if label.mark == 0 {
+        return !closed_policy(book, label.formula);
     }
-    if is_duty(mark) {
-        return !closed_action(book, formulas, formula);
+    if is_duty(label.mark) {
+        return !closed_action(book, label.formula);
     }
     true
 }
 
 // Checks 6 to 8 of entry `k`, by its part: the conditions, the obligations or the labels.
-fn bad_entry(file: &[u8], book: &[u8], formulas: usize, p: usize, k: usize) -> bool
-    requires { ⌜ Parted (now file) × Booked (now file) (now book) formulas ⌝ }
+fn bad_entry(file: &[u8], book: &[u8], p: usize, k: usize) -> bool
+    requires { ⌜ Booked (now file) (now book) ⌝ }
     requires { ⌜ (condition-part ≤ p) × (p ≤ label-part) × (k < count (now file) p) ⌝ }
     ensures { λ r. ⌜ r ≡ badEntry (now (file .entry)) (formulasOf (now (file .entry))) p k ⌝ }
 {
     if p == CONDITIONS {
-        return bad_condition(file, book, formulas, k);
+        return bad_condition(file, book, k);
     }
     if p == OBLIGATIONS {
-        return bad_obligation(file, book, formulas, k);
+        return bad_obligation(file, book, k);
     }
-    bad_label(file, book, formulas, k)
+    bad_label(file, book, k)
 }
 
 // The first bad entry of part `p`, or the number of its entries.
-fn first_bad(file: &[u8], book: &[u8], formulas: usize, p: usize) -> usize
-    requires { ⌜ Parted (now file) × Booked (now file) (now book) formulas ⌝ }
+fn first_bad(file: &[u8], book: &[u8], p: usize) -> usize
+    requires { ⌜ Booked (now file) (now book) ⌝ }
     requires { ⌜ (condition-part ≤ p) × (p ≤ label-part) ⌝ }
     ensures { λ r. ⌜ r ≡ lowest (badEntry (now (file .entry)) (formulasOf (now (file .entry))) p) (count (now (file .entry)) p) 0 ⌝ }
 {
     let n = count_of(file, p);
     let mut k: usize = 0;
     while k < n {
-        if bad_entry(file, book, formulas, p, k) {
+        if bad_entry(file, book, p, k) {
             return k;
         }
         k += 1;
@@ -114,8 +109,8 @@ fn first_bad(file: &[u8], book: &[u8], formulas: usize, p: usize) -> usize
 }
 
 // Check 9: is the agent no agent, or the action no ground action?
-fn bad_audit(file: &[u8], book: &[u8], formulas: usize) -> bool
-    requires { ⌜ Parted (now file) × Booked (now file) (now book) formulas ⌝ }
+fn bad_audit(file: &[u8], book: &[u8]) -> bool
+    requires { ⌜ Booked (now file) (now book) ⌝ }
     ensures { λ r. ⌜ r ≡ badAudit (now (file .entry)) (formulasOf (now (file .entry))) ⌝ }
 {
     let agent = agent_of(file);
@@ -123,27 +118,27 @@ fn bad_audit(file: &[u8], book: &[u8], formulas: usize) -> bool
         return true;
     }
     let action = action_of(file);
-    !ground_action(book, formulas, action)
+    !ground_action(book, action)
 }
 
 // Checks 6 to 9.
-pub fn check_records(file: &[u8], book: &[u8], formulas: usize) -> Failure
-    requires { ⌜ Parted (now file) × Booked (now file) (now book) formulas ⌝ }
+pub fn check_records(file: &[u8], book: &[u8]) -> Failure
+    requires { ⌜ Booked (now file) (now book) ⌝ }
     ensures { λ r. ⌜ failureMeant r ≡ inOrder (recordChecks (now (file .entry))) ⌝ }
 {
-    let condition = first_bad(file, book, formulas, CONDITIONS);
+    let condition = first_bad(file, book, CONDITIONS);
     if condition < count_of(file, CONDITIONS) {
         return Failure::At(6, condition as u16);
     }
-    let obligation = first_bad(file, book, formulas, OBLIGATIONS);
+    let obligation = first_bad(file, book, OBLIGATIONS);
     if obligation < count_of(file, OBLIGATIONS) {
         return Failure::At(7, obligation as u16);
     }
-    let label = first_bad(file, book, formulas, LABELS);
+    let label = first_bad(file, book, LABELS);
     if label < count_of(file, LABELS) {
         return Failure::At(8, label as u16);
     }
-    if bad_audit(file, book, formulas) {
+    if bad_audit(file, book) {
         return Failure::At(9, 0);
     }
     Failure::None

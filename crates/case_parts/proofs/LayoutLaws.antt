@@ -1,4 +1,4 @@
--- The layout as the code reads it: the tests of check 2 first to last, and the bytes and fields of a part that is in its place. Assumes nothing.
+-- The layout as the code reads it: the tests of check 2 first to last, and the bytes of a part that is in its place and of its records. Assumes nothing.
 use Prim.Native.Nat.{ℕ, zero, suc, _+_, _*_, _-_, _/_, _%_, _≤_, _<_}
 use mathlib.Core.Path.{_≡_, sym}
 use mathlib.Core.Bool.{true, false, or-false as or-none}
@@ -8,11 +8,12 @@ use native.Mathlib.Omega.{arith}
 use lib.ListN.{length, take, drop}
 use lib.Dec.{ltb}
 use borrow.Author.Tests.{lt-ltb, le-ltb, eq-eqb, ne-eqb}
-use Rattle.definition.proofs.PartLaws.{long-header, part-few, part-inside}
-use Rattle.definition.proofs.Windows.{window-at}
+use Rattle.definition.proofs.PartLaws.{part-few}
+use Rattle.definition.proofs.Windows.{window-at, window-length}
 use Rattle.definition.specs.01-Words.{word}
-use Rattle.definition.specs.11-Layout.{mostBytes, recordBytes, mostRecords, offset, size, end, count, part, field, dueOffset, orphans, isMisplaced, faultyPart}
+use Rattle.definition.specs.11-Layout.{recordBytes, mostRecords, offset, size, end, count, part, recordsIn, fieldIn, dueOffset, orphans, isMisplaced, faultyPart}
 use Rattle.definition.specs.18-Admission.{Parted}
+use Rattle.case_parts.specs.Records.{Recorded}
 
 pub some-bytes : (p : ℕ) → 0 < recordBytes p
 unfolding recordBytes
@@ -75,11 +76,31 @@ module _ (s : List ℕ) (p : ℕ) (e : isMisplaced s p ≡ false) where
   unfolding faultyPart
   never-faulty h k = rw (e, ne-eqb p 7 h, ne-eqb p 2 k)
 
--- Two bytes of a record lie in the bytes that the records have together.
-in-records : (r k i n : ℕ) → k < n / r → i + 2 ≤ r → r * k + i + 2 ≤ n
-in-records r k i n lt fits =
-    let up : r * suc k ≤ r * (n / r) = mul-le-mul-left r lt in
-    omega (arith, up, mul-div-le n r, mul-suc r k, fits)
+-- A record lies in the bytes that the records have together.
+pub record-inside : (b : List ℕ) (p k : ℕ) → k < recordsIn b p → recordBytes p * k + recordBytes p ≤ length b
+unfolding recordsIn
+record-inside b p k lt =
+    let r = recordBytes p in
+    let up : r * suc k ≤ r * (length b / r) = mul-le-mul-left r lt in
+    omega (arith, up, mul-div-le (length b) r, mul-suc r k)
+
+pub record-near : (b : List ℕ) (p k each : ℕ) → k < recordsIn b p → each ≡ recordBytes p → each * k + each ≤ length b
+record-near b p k each lt e = rw e (record-inside b p k lt)
+
+-- Its bytes, from the numbers that were read, and so its fields: the one law of all records.
+pub record-is : (b : List ℕ) (p k each : ℕ) → k < recordsIn b p → each ≡ recordBytes p → Recorded b p k (take (each * k + each - each * k) (drop (each * k) b))
+unfolding fieldIn word
+record-is b p k each lt e =
+    let long : each * k + each - each * k ≡ recordBytes p = omega arith in
+    let inside = record-inside b p k lt in
+    rw (long, e)
+    (record {
+      long = window-length b (recordBytes p) (recordBytes p * k) inside;
+      field =
+          λ i h.
+          let next : recordBytes p * k + i + 1 ≡ recordBytes p * k + (i + 1) = omega arith in
+          rw (window-at b (recordBytes p) (recordBytes p * k) i (omega arith), window-at b (recordBytes p) (recordBytes p * k) (i + 1) (omega arith), next);
+    })
 
 module _ (s : List ℕ) (g : Parted s) (p : ℕ) (known : p < 8) where
   pub counted : (n r : ℕ) → n ≡ size s p → r ≡ recordBytes p → (n / r ≡ count s p) × (n / r ≤ mostRecords p)
@@ -87,27 +108,3 @@ module _ (s : List ℕ) (g : Parted s) (p : ℕ) (known : p < 8) where
   counted n r e f =
       let is : n / r ≡ size s p / recordBytes p = rw (e, f) in
       (is, omega (arith, is, part-few s g p known))
-
-  module _ (k i : ℕ) (below : k < count s p) (fits : i + 2 ≤ recordBytes p) where
-    pub field-in : recordBytes p * k + i + 2 ≤ size s p
-    unfolding count
-    field-in = in-records (recordBytes p) k i (size s p) below fits
-
-    pub field-inside : offset s p + recordBytes p * k + i + 2 ≤ length s
-    field-inside = omega (arith, field-in, part-inside s g p known)
-
-    pub field-near : (o r : ℕ) → o ≡ offset s p → r ≡ recordBytes p → (o + r * k + i + 2 ≤ length s) × (o + r * k + i + 2 ≤ mostBytes)
-    field-near o r e f = rw (e, f) (field-inside, omega (arith, field-inside, long-header s (g .long) .1))
-
-    pub field-at : word s (offset s p + recordBytes p * k + i) ≡ field s p k i
-    unfolding field part word
-    field-at =
-        let at = recordBytes p * k + i in
-        let low = window-at s (size s p) (offset s p) at (omega (arith, field-in)) in
-        let high = window-at s (size s p) (offset s p) (at + 1) (omega (arith, field-in)) in
-        let here : offset s p + recordBytes p * k + i ≡ offset s p + at = omega arith in
-        let next : offset s p + at + 1 ≡ offset s p + (at + 1) = omega arith in
-        rw (low, high, here, next)
-
-    pub field-read : (o r : ℕ) → o ≡ offset s p → r ≡ recordBytes p → word s (o + r * k + i) ≡ field s p k i
-    field-read o r e f = rw (e, f) field-at

@@ -1,2 +1,2 @@
-pub mod StepRecord
+pub mod Records
 pub mod ShapedSteps

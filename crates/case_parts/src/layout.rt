@@ -1,12 +1,12 @@
 // The header and the parts: checks 1 and 2, and reading from a part. The numbers of the layout stand here.
 use words::Failure;
 ghost use mathlib.Core.Path.{_≡_};
-ghost use Prim.Native.Nat.{_+_, _<_, _≤_};
+ghost use Prim.Native.Nat.{_<_, _≤_};
 ghost use lib.ListN.{length};
 ghost use lib.Dec.{ltb};
 ghost use Rattle.definition.specs.02-Ranges.{lowest};
 ghost use Rattle.definition.specs.04-Checks.{inOrder};
-ghost use Rattle.definition.specs.11-Layout.{offset, size, end, count, headerBytes, recordBytes, mostRecords, dueOffset, badLength, orphans, isMisplaced, faultyPart, layoutChecks, part as partOf, field as fieldOf};
+ghost use Rattle.definition.specs.11-Layout.{offset, size, end, count, headerBytes, recordBytes, mostRecords, dueOffset, badLength, orphans, isMisplaced, faultyPart, layoutChecks, recordsIn, part as partOf};
 ghost use Rattle.definition.specs.18-Admission.{Parted};
 ghost use Rattle.words.specs.Meanings.{failureMeant};
 
@@ -208,13 +208,10 @@ pub fn count_of(file: &[u8], p: usize) -> usize
     bytes / each
 }
 
-// The number at byte `i` of record `k` of part `p`.
-pub fn field(file: &[u8], p: usize, k: usize, i: usize) -> u16
-    requires { ⌜ Parted (now file) × (p < 8) ⌝ }
-    requires { ⌜ (k < count (now file) p) × (i + 2 ≤ recordBytes p) ⌝ }
-    ensures { λ r. ⌜ r ≡ fieldOf (now (file .entry)) p k i ⌝ }
+// How many records the bytes of a part `p` are.
+pub fn records_in(bytes: &[u8], p: usize) -> usize
+    ensures { λ r. ⌜ r ≡ recordsIn (now (bytes .entry)) p ⌝ }
 {
-    let from = part_offset(file, p) as usize;
     let each = record_bytes(p);
-    words::read_word(file, from + each * k + i)
+    bytes.len() / each
 }

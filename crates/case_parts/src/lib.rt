@@ -1,4 +1,4 @@
-// The parts of a case file: checks 1 and 2, and the fields of the records.
+// The parts of a case file: checks 1 and 2, and the records.
 mod layout;
 mod records;
 
@@ -13,21 +13,18 @@ pub use layout::STEPS;
 pub use layout::check_layout;
 pub use layout::count_of;
 pub use layout::part;
+pub use layout::records_in;
+pub use records::Label;
+pub use records::LogRow;
+pub use records::Obligation;
 pub use records::Step;
 pub use records::action_of;
 pub use records::agent_of;
 pub use records::bad_span;
 pub use records::condition_formula;
-pub use records::label_formula;
-pub use records::label_mark;
-pub use records::obligation_action;
-pub use records::obligation_mark;
+pub use records::label_at;
+pub use records::log_row_at;
+pub use records::obligation_at;
 pub use records::observer;
 pub use records::premise_step;
-pub use records::row_action;
-pub use records::row_count;
-pub use records::row_from;
 pub use records::step_at;
-pub use records::step_count;
-pub use records::step_formula;
-pub use records::step_from;

@@ -1,4 +1,4 @@
-// The fields of the records, and the test of a span.
+// The records, each read whole, and the test of a span.
 use crate::layout::CONDITIONS;
 use crate::layout::LABELS;
 use crate::layout::LOG;
@@ -6,20 +6,22 @@ use crate::layout::OBLIGATIONS;
 use crate::layout::OBSERVERS;
 use crate::layout::PREMISES;
 use crate::layout::STEPS;
-use crate::layout::field;
+use crate::layout::part;
+use crate::layout::record_bytes;
+use words::read_word;
 ghost use mathlib.Core.Path.{_≡_};
-ghost use Prim.Native.Nat.{_+_, _<_, _≤_};
-ghost use Rattle.definition.specs.11-Layout.{log-part, observer-part, condition-part, obligation-part, label-part, step-part, premise-part, count, agentOf, actionOf};
-ghost use Rattle.definition.specs.15-Records.{rowAction, rowFrom, rowCount, observer as observerOf, conditionFormula, obligationMark, obligationAction, labelMark, labelFormula, stepRule, stepFormula, stepArgument, stepFrom, stepCount, premiseStep, spanFault};
+ghost use Prim.Native.Nat.{_<_, _≤_};
+ghost use Rattle.definition.specs.11-Layout.{log-part, observer-part, condition-part, obligation-part, label-part, step-part, premise-part, count, recordsIn, agentOf, actionOf, part as partOf};
+ghost use Rattle.definition.specs.15-Records.{observer as observerOf, conditionFormula, premiseStep, spanFault};
 ghost use Rattle.definition.specs.18-Admission.{Parted};
-ghost use Rattle.case_parts.specs.StepRecord.{StepFields};
+ghost use Rattle.case_parts.specs.Records.{Recorded, RowFields, ObligationFields, LabelFields, StepFields};
 
 // The audited agent.
 pub fn agent_of(file: &[u8]) -> u16
     requires { ⌜ Parted (now file) ⌝ }
     ensures { λ r. ⌜ r ≡ agentOf (now (file .entry)) ⌝ }
 {
-    words::read_word(file, 0)
+    read_word(file, 0)
 }
 
 // The audited action.
@@ -27,39 +29,55 @@ pub fn action_of(file: &[u8]) -> u16
     requires { ⌜ Parted (now file) ⌝ }
     ensures { λ r. ⌜ r ≡ actionOf (now (file .entry)) ⌝ }
 {
-    words::read_word(file, 2)
+    read_word(file, 2)
 }
 
-// The action of log row `k`.
-pub fn row_action(file: &[u8], k: usize) -> u16
-    requires { ⌜ Parted (now file) × (k < count (now file) log-part) ⌝ }
-    ensures { λ r. ⌜ r ≡ rowAction (now (file .entry)) k ⌝ }
+// Record `k` of the bytes of a part `p`.
+fn record_of(bytes: &[u8], p: usize, k: usize) -> &[u8]
+    requires { ⌜ k < recordsIn (now bytes) p ⌝ }
+    ensures { λ r. ⌜ Recorded (now (bytes .entry)) p k (now r) ⌝ }
 {
-    field(file, LOG, k, 0)
+    let each = record_bytes(p);
+    let at = each * k;
+    &bytes[at..at + each]
 }
 
-// Where the observers of log row `k` begin.
-pub fn row_from(file: &[u8], k: usize) -> u16
-    requires { ⌜ Parted (now file) × (k < count (now file) log-part) ⌝ }
-    ensures { λ r. ⌜ r ≡ rowFrom (now (file .entry)) k ⌝ }
+// Record `k` of part `p` of a file.
+fn record_in(file: &[u8], p: usize, k: usize) -> &[u8]
+    requires { ⌜ Parted (now file) × (p < 8) × (k < count (now file) p) ⌝ }
+    ensures { λ r. ⌜ Recorded (partOf (now (file .entry)) p) p k (now r) ⌝ }
 {
-    field(file, LOG, k, 2)
+    let bytes = part(file, p);
+    record_of(bytes, p, k)
 }
 
-// How many observers log row `k` has.
-pub fn row_count(file: &[u8], k: usize) -> u16
-    requires { ⌜ Parted (now file) × (k < count (now file) log-part) ⌝ }
-    ensures { λ r. ⌜ r ≡ rowCount (now (file .entry)) k ⌝ }
-{
-    field(file, LOG, k, 4)
+// A log row: its action, and where its observers begin and how many they are.
+pub struct LogRow {
+    pub action: u16,
+    pub from: u16,
+    pub len: u16,
 }
 
-// Observer entry `j`.
-pub fn observer(file: &[u8], j: usize) -> u16
-    requires { ⌜ Parted (now file) × (j < count (now file) observer-part) ⌝ }
-    ensures { λ r. ⌜ r ≡ observerOf (now (file .entry)) j ⌝ }
+// Row `k` of a log, whose rows have these bytes.
+pub fn log_row_at(rows: &[u8], k: usize) -> LogRow
+    requires { ⌜ k < recordsIn (now rows) log-part ⌝ }
+    ensures { λ r. ⌜ RowFields (now (rows .entry)) k r ⌝ }
 {
-    field(file, OBSERVERS, j, 0)
+    let bytes = record_of(rows, LOG, k);
+    LogRow {
+        action: read_word(bytes, 0),
+        from: read_word(bytes, 2),
+        len: read_word(bytes, 4),
+    }
+}
+
+// Observer entry `j` of a log, whose observers have these bytes.
+pub fn observer(observers: &[u8], j: usize) -> u16
+    requires { ⌜ j < recordsIn (now observers) observer-part ⌝ }
+    ensures { λ r. ⌜ r ≡ observerOf (now (observers .entry)) j ⌝ }
+{
+    let bytes = record_of(observers, OBSERVERS, j);
+    read_word(bytes, 0)
 }
 
 // The formula of condition `k`, or 65,535.
@@ -67,82 +85,45 @@ pub fn condition_formula(file: &[u8], k: usize) -> u16
     requires { ⌜ Parted (now file) × (k < count (now file) condition-part) ⌝ }
     ensures { λ r. ⌜ r ≡ conditionFormula (now (file .entry)) k ⌝ }
 {
-    field(file, CONDITIONS, k, 0)
+    let bytes = record_in(file, CONDITIONS, k);
+    read_word(bytes, 0)
 }
 
-// The mark of obligation `k`.
-pub fn obligation_mark(file: &[u8], k: usize) -> u16
+// An obligation: its mark, and its action.
+pub struct Obligation {
+    pub mark: u16,
+    pub action: u16,
+}
+
+pub fn obligation_at(file: &[u8], k: usize) -> Obligation
     requires { ⌜ Parted (now file) × (k < count (now file) obligation-part) ⌝ }
-    ensures { λ r. ⌜ r ≡ obligationMark (now (file .entry)) k ⌝ }
+    ensures { λ r. ⌜ ObligationFields (now (file .entry)) k r ⌝ }
 {
-    field(file, OBLIGATIONS, k, 0)
+    let bytes = record_in(file, OBLIGATIONS, k);
+    Obligation {
+        mark: read_word(bytes, 0),
+        action: read_word(bytes, 2),
+    }
 }
 
-// The action of obligation `k`.
-pub fn obligation_action(file: &[u8], k: usize) -> u16
-    requires { ⌜ Parted (now file) × (k < count (now file) obligation-part) ⌝ }
-    ensures { λ r. ⌜ r ≡ obligationAction (now (file .entry)) k ⌝ }
-{
-    field(file, OBLIGATIONS, k, 2)
+// A label: its mark, and its policy or action.
+pub struct Label {
+    pub mark: u16,
+    pub formula: u16,
 }
 
-// The mark of label `k`.
-pub fn label_mark(file: &[u8], k: usize) -> u16
+pub fn label_at(file: &[u8], k: usize) -> Label
     requires { ⌜ Parted (now file) × (k < count (now file) label-part) ⌝ }
-    ensures { λ r. ⌜ r ≡ labelMark (now (file .entry)) k ⌝ }
+    ensures { λ r. ⌜ LabelFields (now (file .entry)) k r ⌝ }
 {
-    field(file, LABELS, k, 0)
+    let bytes = record_in(file, LABELS, k);
+    Label {
+        mark: read_word(bytes, 0),
+        formula: read_word(bytes, 2),
+    }
 }
 
-// The formula of label `k`.
-pub fn label_formula(file: &[u8], k: usize) -> u16
-    requires { ⌜ Parted (now file) × (k < count (now file) label-part) ⌝ }
-    ensures { λ r. ⌜ r ≡ labelFormula (now (file .entry)) k ⌝ }
-{
-    field(file, LABELS, k, 2)
-}
-
-// The rule of step `k`.
-pub fn step_rule(file: &[u8], k: usize) -> u16
-    requires { ⌜ Parted (now file) × (k < count (now file) step-part) ⌝ }
-    ensures { λ r. ⌜ r ≡ stepRule (now (file .entry)) k ⌝ }
-{
-    field(file, STEPS, k, 0)
-}
-
-// The formula of step `k`.
-pub fn step_formula(file: &[u8], k: usize) -> u16
-    requires { ⌜ Parted (now file) × (k < count (now file) step-part) ⌝ }
-    ensures { λ r. ⌜ r ≡ stepFormula (now (file .entry)) k ⌝ }
-{
-    field(file, STEPS, k, 2)
-}
-
-// The argument of step `k`.
-pub fn step_argument(file: &[u8], k: usize) -> u16
-    requires { ⌜ Parted (now file) × (k < count (now file) step-part) ⌝ }
-    ensures { λ r. ⌜ r ≡ stepArgument (now (file .entry)) k ⌝ }
-{
-    field(file, STEPS, k, 4)
-}
-
-// Where the premises of step `k` begin.
-pub fn step_from(file: &[u8], k: usize) -> u16
-    requires { ⌜ Parted (now file) × (k < count (now file) step-part) ⌝ }
-    ensures { λ r. ⌜ r ≡ stepFrom (now (file .entry)) k ⌝ }
-{
-    field(file, STEPS, k, 6)
-}
-
-// How many premises step `k` has.
-pub fn step_count(file: &[u8], k: usize) -> u16
-    requires { ⌜ Parted (now file) × (k < count (now file) step-part) ⌝ }
-    ensures { λ r. ⌜ r ≡ stepCount (now (file .entry)) k ⌝ }
-{
-    field(file, STEPS, k, 8)
-}
-
-// Step `k`, whole.
+// A step: its rule, formula and argument, and where its premises begin and how many they are.
 pub struct Step {
     pub rule: u16,
     pub formula: u16,
@@ -155,12 +136,13 @@ pub fn step_at(file: &[u8], k: usize) -> Step
     requires { ⌜ Parted (now file) × (k < count (now file) step-part) ⌝ }
     ensures { λ r. ⌜ StepFields (now (file .entry)) k r ⌝ }
 {
+    let bytes = record_in(file, STEPS, k);
     Step {
-        rule: step_rule(file, k),
-        formula: step_formula(file, k),
-        argument: step_argument(file, k),
-        from: step_from(file, k),
-        len: step_count(file, k),
+        rule: read_word(bytes, 0),
+        formula: read_word(bytes, 2),
+        argument: read_word(bytes, 4),
+        from: read_word(bytes, 6),
+        len: read_word(bytes, 8),
     }
 }
 
@@ -169,7 +151,8 @@ pub fn premise_step(file: &[u8], j: usize) -> u16
     requires { ⌜ Parted (now file) × (j < count (now file) premise-part) ⌝ }
     ensures { λ r. ⌜ r ≡ premiseStep (now (file .entry)) j ⌝ }
 {
-    field(file, PREMISES, j, 0)
+    let bytes = record_in(file, PREMISES, j);
+    read_word(bytes, 0)
 }
 
 // Is a span at fault? It is `len` of the `entries`, from `from` on, and is due to begin at `due`; the last has to end with them.

@@ -1,28 +1,29 @@
 -- What follows the admission, by where the code stops: the verdict and the room are those that the definition reports. Assumes nothing.
 use Prim.Native.Nat.{ℕ, _+_, _≤_, _<_}
 use mathlib.Core.Path.{_≡_, refl, sym, ap, _∙_}
-use mathlib.Core.Option.{none, some}
-use mathlib.Core.Bool.{false}
+use mathlib.Core.Option.{Option, none, some}
+use mathlib.Core.Bool.{false, true≢false}
 use mathlib.Core.List.{List, [], _∷_, _++_}
 use native.Mathlib.Omega.{arith}
 use lib.ListN.{length, drop}
 use lib.Dec.{ltb}
 use borrow.Author.Tests.{lt-ltb, le-ltb}
-use Rattle.definition.proofs.CheckLaws.{stops, goes-on, all-hold, hold-all, skip-before, stop-before}
+use Rattle.definition.proofs.AdmissionLaws.{admitted-logged}
+use Rattle.definition.proofs.CheckLaws.{stops, all-hold, hold-all, skip-before, stop-before}
 use Rattle.definition.proofs.PromiseLaws as promises
 use Rattle.definition.proofs.States.{steps-fine}
 use Rattle.definition.proofs.StepLaws.{fine-shaped}
-use Rattle.definition.specs.04-Checks.{Checked, accepts, refuses, _>>_, single, inOrder}
+use Rattle.definition.specs.04-Checks.{AllHold, Checked, accepts, refuses, _>>_, single, inOrder}
 use Rattle.definition.specs.11-Layout.{formula-part, step-part, part, count}
 use Rattle.definition.specs.13-Formulas.{Formula}
 use Rattle.definition.specs.17-Case.{Case, caseOf}
 use Rattle.definition.specs.18-Admission.{admissionChecks, admission}
 use Rattle.definition.specs.22-Steps.{State, startState, checksOfSteps, stateAt}
-use Rattle.definition.specs.31-Outcome.{Finding, owes, isOwed, hasSteps, noProof, needlessProof, needed, shortRoom, dischargedList, citedList, owingChecks, endChecks, finalState, proofChecks, checksIfOwed, caseChecks, allChecks, foundIfOwed, found, finding, report, outcome}
+use Rattle.definition.specs.31-Outcome.{Finding, owes, isOwed, hasSteps, noProof, needlessProof, needed, shortRoom, dischargedList, citedList, owingChecks, closingChecks, roomChecks, endChecks, finalState, proofChecks, checksIfOwed, caseChecks, allChecks, foundIfOwed, found, finding, report, outcome}
 use Rattle.definition.specs.45-Promises.{Answered}
-use Rattle.case_file.proofs.Laws.{table-view, all-rows-entered}
+use Rattle.case_file.proofs.Laws.{logged-booked, table-view}
 use Rattle.case_file.specs.AdmissionRuns.{beforeLog}
-use Rattle.case_file.specs.Seen.{SeenUpTo, rowsAfter}
+use Rattle.case_file.specs.Seen.{SeenAfter}
 use Rattle.rules.proofs.ShapedStepLaws.{formula-inside}
 use Rattle.case_file.specs.LentCase.{Lent, CaseLent}
 use Rattle.case_parts.specs.ShapedSteps.{EarlierNumbered}
@@ -45,7 +46,7 @@ reported-as e h = record { verdict = rw e (h .verdict); room-is = rw e (h .room-
 module _ (c : Case) (s : State) (room : List ℕ) where
   -- Check 23, and the lists.
   pub listing-short : (n : ℕ) → n ≡ needed c s → length room < n → Reported (listing c s (length room)) room (Refused 23 n) room
-  unfolding listing shortRoom _>>_
+  unfolding listing roomChecks shortRoom _>>_
   listing-short n e lt =
       refusal-reported (listing c s (length room)) room 23 n
       (rw (stops (single 23 (needed c s) (ltb (length room) (needed c s))) [] 23 n (refl, sym e, rw (← e) (lt-ltb (length room) n lt))))
@@ -53,23 +54,23 @@ module _ (c : Case) (s : State) (room : List ℕ) where
   pub listing-passed :
       (d r : ℕ) (after : List ℕ) → d ≡ length (dischargedList c s) → r ≡ length (citedList c s) → d + r ≤ length room →
       after ≡ dischargedList c s ++ citedList c s ++ drop (d + r) room → Reported (listing c s (length room)) room (Passed d r) after
-  unfolding listing shortRoom needed report verdictMeant _>>_
+  unfolding listing roomChecks shortRoom needed report verdictMeant _>>_
   listing-passed d r after e f le is =
       let fits : ltb (length room) (length (dischargedList c s) + length (citedList c s)) ≡ false = le-ltb (length room) (length (dischargedList c s) + length (citedList c s)) (omega (arith, e, f)) in
       let n = length (dischargedList c s) + length (citedList c s) in
       let passed = hold-all (single 23 n (ltb (length room) n) ∷ []) (fits, tt) in
       record { verdict = rw (passed, e, f); room-is = is ∙ rw (passed, e, f) }
 
-  -- A check of the end that fails, and the checks before 23 passed.
-  pub end-refused : (n p : ℕ) → inOrder (endChecks c s (length room)) ≡ refuses n p → Reported (concluding c s (length room)) room (Refused n p) room
-  unfolding concluding _>>_
-  end-refused n p e = refusal-reported (concluding c s (length room)) room n p (rw e)
+  -- One of checks 20 to 22 fails, or all of them hold.
+  pub end-refused : (n p : ℕ) → refuses n p ≡ inOrder (closingChecks c s) → Reported (concluding c s (length room)) room (Refused n p) room
+  unfolding concluding endChecks _>>_
+  end-refused n p e = refusal-reported (concluding c s (length room)) room n p (rw (← stop-before (closingChecks c s) (roomChecks c s (length room)) e))
 
   pub end-listing :
-      (r : Verdict) (after : List ℕ) → inOrder (endChecks c s (length room)) ≡ inOrder (single 23 (needed c s) (shortRoom c s (length room)) ∷ []) →
+      (r : Verdict) (after : List ℕ) → accepts tt ≡ inOrder (closingChecks c s) →
       Reported (listing c s (length room)) room r after → Reported (concluding c s (length room)) room r after
-  unfolding concluding listing
-  end-listing r after e = reported-as (rw e)
+  unfolding concluding endChecks listing
+  end-listing r after e = reported-as (rw (skip-before (closingChecks c s) (roomChecks c s (length room)) (all-hold (closingChecks c s) (sym e))))
 
 -- The steps, and what follows them.
 pub proof-refused : (c : Case) (room n p : ℕ) → refuses n p ≡ inOrder (checksOfSteps c (c .steps) 0 startState) → proof c room ≡ refuses n p
@@ -93,31 +94,43 @@ all-numbered {s} {b} lent e j lt =
     let c = caseOf s in
     formula-inside j lent (fine-shaped c j _ (steps-fine c (c .steps) 0 (all-hold (checksOfSteps c (c .steps) 0 startState) (sym e)) j (omega arith) (omega arith)))
 
--- Checks 10 and 11.
+-- Checks 10 and 11: one of them fails, or nothing is owed, or the steps are looked at.
 module _ (c : Case) (room : List ℕ) where
-  module _ (e : owes c ≡ none) where
-    pub needless-steps : 0 < c .steps → Reported (justifying c (length room)) room (Refused 11 0) room
-    unfolding justifying caseChecks owingChecks noProof needlessProof isOwed hasSteps _>>_
-    needless-steps lt =
-        refusal-reported (justifying c (length room)) room 11 0
-        (rw (goes-on (single 10 0 (noProof c)) (single 11 0 (needlessProof c) ∷ checksIfOwed (owes c) c (length room)) (rw e) ∙ stops _ _ 11 0 (refl, refl, rw (e, lt-ltb 0 (c .steps) lt))))
+  pub owing-refused : (n p : ℕ) → refuses n p ≡ inOrder (owingChecks c) → Reported (justifying c (length room)) room (Refused n p) room
+  unfolding justifying caseChecks _>>_
+  owing-refused n p e = refusal-reported (justifying c (length room)) room n p (rw (← stop-before (owingChecks c) (checksIfOwed (owes c) c (length room)) e))
 
-    pub nothing-owed-reported : c .steps ≤ 0 → Reported (justifying c (length room)) room NoneOwed room
-    unfolding justifying caseChecks owingChecks noProof needlessProof isOwed hasSteps checksIfOwed found foundIfOwed report verdictMeant inOrder _>>_
-    nothing-owed-reported le =
-        let passed = skip-before (owingChecks c) (checksIfOwed (owes c) c (length room)) (rw e, (rw (e, le-ltb 0 (c .steps) le), tt)) in
-        record { verdict = rw (passed, e); room-is = rw (passed, e) }
+  module _ (fine : accepts tt ≡ inOrder (owingChecks c)) where
+    holds : AllHold (owingChecks c)
+    holds = all-hold (owingChecks c) (sym fine)
 
-  module _ (f : Formula) (e : owes c ≡ some f) where
-    pub owed-without-steps : c .steps ≡ 0 → Reported (justifying c (length room)) room (Refused 10 0) room
-    unfolding justifying caseChecks owingChecks noProof isOwed hasSteps _>>_
-    owed-without-steps z = refusal-reported (justifying c (length room)) room 10 0 (rw (stops (single 10 0 (noProof c)) (single 11 0 (needlessProof c) ∷ checksIfOwed (owes c) c (length room)) 10 0 (refl, refl, rw (e, z))))
+    passed : inOrder (caseChecks c (length room)) ≡ inOrder (checksIfOwed (owes c) c (length room))
+    unfolding caseChecks
+    passed = skip-before (owingChecks c) (checksIfOwed (owes c) c (length room)) holds
 
-    pub owed-with-steps : (r : Verdict) (after : List ℕ) → 0 < c .steps → Reported (proof c (length room)) room r after → Reported (justifying c (length room)) room r after
-    unfolding justifying proof caseChecks owingChecks noProof needlessProof isOwed hasSteps checksIfOwed found foundIfOwed
-    owed-with-steps r after lt =
-        let passed = skip-before (owingChecks c) (checksIfOwed (owes c) c (length room)) (rw (e, lt-ltb 0 (c .steps) lt), (rw e, tt)) in
-        reported-as (rw (passed, e))
+    none-reported : owes c ≡ none → Reported (justifying c (length room)) room NoneOwed room
+    unfolding justifying checksIfOwed found foundIfOwed report verdictMeant inOrder _>>_
+    none-reported e = record { verdict = rw (passed, e); room-is = rw (passed, e) }
+
+    some-reported : (f : Formula) → owes c ≡ some f → (r : Verdict) (after : List ℕ) → Reported (proof c (length room)) room r after → Reported (justifying c (length room)) room r after
+    unfolding justifying proof checksIfOwed found foundIfOwed
+    some-reported f e r after = reported-as (rw (passed, e))
+
+    pub nothing-owed-reported : c .steps ≡ 0 → Reported (justifying c (length room)) room NoneOwed room
+    unfolding owingChecks noProof isOwed hasSteps
+    nothing-owed-reported z = go (owes c) refl
+      where
+        go : (o : Option Formula) → owes c ≡ o → Reported (justifying c (length room)) room NoneOwed room
+        go none e = none-reported e
+        go (some f) e = absurd (true≢false (rw (e, z) at (holds .0)))
+
+    pub steps-reported : 0 < c .steps → (r : Verdict) (after : List ℕ) → Reported (proof c (length room)) room r after → Reported (justifying c (length room)) room r after
+    unfolding owingChecks needlessProof isOwed hasSteps
+    steps-reported lt r after h = go (owes c) refl
+      where
+        go : (o : Option Formula) → owes c ≡ o → Reported (justifying c (length room)) room r after
+        go none e = absurd (true≢false (rw (e, lt-ltb 0 (c .steps) lt) at (holds .1 .0)))
+        go (some f) e = some-reported f e r after h
 
 -- The whole answer: the outcome, and demand 3 with it.
 answered : (s room : List ℕ) (r : Verdict) (after : List ℕ) → Reported (finding s (length room)) room r after → Answered (λ v. v) s room (verdictMeant r) after
@@ -139,7 +152,7 @@ answered-admitted s room r after e h =
 
 -- An admitted file, with the table that the admission has filled, is what the rest is lent.
 pub case-lent :
-    (s b old v : List ℕ) → admission s ≡ accepts tt → b ≡ part s formula-part → length old ≡ 1024 → SeenUpTo s (rowsAfter (beforeLog s) s) old v → CaseLent s b v
+    (s b old v : List ℕ) → admission s ≡ accepts tt → b ≡ part s formula-part → length old ≡ 1024 → SeenAfter (beforeLog s) s old v → CaseLent s b v
 case-lent s b old v is e long seen =
-    let all = rw (all-rows-entered s is) at seen in
-    record { lent = record { admitted = is; book = e }; long = seen .long ∙ long; views = table-view s is old v all }
+    let logged = admitted-logged s is in
+    record { lent = record { admitted = is; booked = logged-booked s logged e }; long = seen .long ∙ long; views = table-view s logged old v seen }

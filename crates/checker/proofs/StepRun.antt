@@ -47,53 +47,53 @@ all-accepted c (suc left) i h =
     rw (hold-all (stepChecks c i (stateAt c i)) (b .0), ← state-next c i)
     (all-accepted c left (i + 1) (rw (state-next c i) (b .1)) ∙ ap (stateAt c) (omega arith))
 
-pub record Turn (s : List ℕ) (start : State) (n : ℕ) (o : List ℕ) (u c d : List Bool) (k : ℕ) : Type 0 where
+pub record Turn (s : List ℕ) (start : State) (n : ℕ) (l : List ℕ) (c d : List Bool) (k : ℕ) : Type 0 where
   pub all : n ≡ count s step-part
   pub passed : k ≤ n
-  pub tables : Tables o u c d
+  pub tables : Tables l c d
   pub earlier : EarlierNumbered s k
-  pub run : inOrder (checksOfSteps (caseOf s) (caseOf s .steps) 0 start) ≡ inOrder (checksOfSteps (caseOf s) (n - k) k (stateOf o u c d))
-  pub state : afterRun (caseOf s) (caseOf s .steps) 0 start ≡ afterRun (caseOf s) (n - k) k (stateOf o u c d)
+  pub run : inOrder (checksOfSteps (caseOf s) (caseOf s .steps) 0 start) ≡ inOrder (checksOfSteps (caseOf s) (n - k) k (stateOf l c d))
+  pub state : afterRun (caseOf s) (caseOf s .steps) 0 start ≡ afterRun (caseOf s) (n - k) k (stateOf l c d)
 
-pub turn-start : (s : List ℕ) (n : ℕ) (o : List ℕ) (u c d : List Bool) → n ≡ count s step-part → Tables o u c d → Turn s (stateOf o u c d) n o u c d 0
+pub turn-start : (s : List ℕ) (n : ℕ) (l : List ℕ) (c d : List Bool) → n ≡ count s step-part → Tables l c d → Turn s (stateOf l c d) n l c d 0
 unfolding caseOf
-turn-start s n o u c d e t =
+turn-start s n l c d e t =
     let all : caseOf s .steps ≡ n - 0 = omega (arith, e) in
     record {
       all = e;
       passed = omega arith;
       tables = t;
       earlier = λ j lt. absurd (omega arith);
-      run = ap (λ m. inOrder (checksOfSteps (caseOf s) m 0 (stateOf o u c d))) all;
-      state = ap (λ m. afterRun (caseOf s) m 0 (stateOf o u c d)) all;
+      run = ap (λ m. inOrder (checksOfSteps (caseOf s) m 0 (stateOf l c d))) all;
+      state = ap (λ m. afterRun (caseOf s) m 0 (stateOf l c d)) all;
     }
 
-module _ (s : List ℕ) (start : State) (n : ℕ) (o : List ℕ) (u c d : List Bool) where
-  module _ (k : ℕ) (t : Turn s start n o u c d k) where
-    pub turn-end : n ≤ k → RunGives s start None o u c d
+module _ (s : List ℕ) (start : State) (n : ℕ) (l : List ℕ) (c d : List Bool) where
+  module _ (k : ℕ) (t : Turn s start n l c d k) where
+    pub turn-end : n ≤ k → RunGives s start None l c d
     unfolding failureMeant checksOfSteps inOrder afterRun
     turn-end le =
         let z : n - k ≡ 0 = omega arith in
         record { tables = t .tables; is = sym (rw z at (t .run)); state = sym (rw z at (t .state)) }
 
-    module _ (lt : k < n) (r : Failure) (o′ : List ℕ) (u′ c′ d′ : List Bool) (g : Stepped s k (stateOf o u c d) r o′ u′ c′ d′) where
-      pub turn-refused : (m p : ℕ) → r ≡ At m p → RunGives s start (At m p) o′ u′ c′ d′
+    module _ (lt : k < n) (r : Failure) (l′ : List ℕ) (c′ d′ : List Bool) (g : Stepped s k (stateOf l c d) r l′ c′ d′) where
+      pub turn-refused : (m p : ℕ) → r ≡ At m p → RunGives s start (At m p) l′ c′ d′
       unfolding failureMeant
       turn-refused m p told =
-          let h = run-refused (caseOf s) n k (stateOf o u c d) lt m p (sym (ap failureMeant told) ∙ g .is) in
+          let h = run-refused (caseOf s) n k (stateOf l c d) lt m p (sym (ap failureMeant told) ∙ g .is) in
           record {
             tables = g .tables;
             is = h .0 ∙ sym (t .run);
             state = g .state ∙ sym (t .state ∙ h .1);
           }
 
-      pub turn-next : {b : List ℕ} → Lent s b → r ≡ None → Turn s start n o′ u′ c′ d′ (k + 1)
+      pub turn-next : {b : List ℕ} → Lent s b → r ≡ None → Turn s start n l′ c′ d′ (k + 1)
       unfolding afterStep byRun failureMeant
       turn-next lent told =
-          let passed : accepts tt ≡ inOrder (stepChecks (caseOf s) k (stateOf o u c d)) = sym (ap failureMeant told) ∙ g .is in
-          let h = run-accepted (caseOf s) n k (stateOf o u c d) lt passed in
-          let after : stateOf o′ u′ c′ d′ ≡ next (caseOf s) k (stateOf o u c d) = rw (← passed) at (g .state) in
-          let fine = no-fault (caseOf s) k (stateOf o u c d) passed .shaped in
+          let passed : accepts tt ≡ inOrder (stepChecks (caseOf s) k (stateOf l c d)) = sym (ap failureMeant told) ∙ g .is in
+          let h = run-accepted (caseOf s) n k (stateOf l c d) lt passed in
+          let after : stateOf l′ c′ d′ ≡ next (caseOf s) k (stateOf l c d) = rw (← passed) at (g .state) in
+          let fine = no-fault (caseOf s) k (stateOf l c d) passed .shaped in
           record {
             all = t .all;
             passed = omega arith;

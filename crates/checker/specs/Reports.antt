@@ -1,18 +1,18 @@
 -- What a verdict and a room report, after the last check, the end, the steps, and all that follows the admission: each with what is found where its checks hold.
 use Prim.Native.Nat.{ℕ}
 use mathlib.Core.Path.{_≡_}
-use mathlib.Core.List.{List, [], _∷_}
-use Rattle.definition.specs.04-Checks.{Checked, accepts, _>>_, single, inOrder}
+use mathlib.Core.List.{List}
+use Rattle.definition.specs.04-Checks.{Checked, accepts, _>>_, inOrder}
 use Rattle.definition.specs.17-Case.{Case}
 use Rattle.definition.specs.22-Steps.{State}
-use Rattle.definition.specs.31-Outcome.{Finding, justified, needed, shortRoom, dischargedList, citedList, endChecks, finalState, proofChecks, caseChecks, found, report}
+use Rattle.definition.specs.31-Outcome.{Finding, justified, dischargedList, citedList, roomChecks, endChecks, finalState, proofChecks, caseChecks, found, report}
 use Rattle.checker.specs.Meanings.{verdictMeant}
 use Rattle.checker.specs.declared.verdict.Verdict.{Verdict}
 
 -- Check 23, the last one, and the two lists.
 unfoldable pub listing : Case → State → ℕ → Checked Finding
 listing c s room = do
-  inOrder (single 23 (needed c s) (shortRoom c s room) ∷ [])
+  inOrder (roomChecks c s room)
   accepts (justified (dischargedList c s) (citedList c s))
 
 -- Checks 20 to 23, of the state that the steps have left.

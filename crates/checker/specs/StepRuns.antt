@@ -17,7 +17,7 @@ afterRun c zero k s = s
 afterRun c (suc left) k s = byRun (inOrder (stepChecks c k s)) (afterRun c left (k + 1) (next c k s)) (touched c k s)
 
 -- The steps from the state s: the first check that fails, and every entry of the tables.
-pub record RunGives (f : List ℕ) (s : State) (r : Failure) (o : List ℕ) (u c d : List Bool) : Type 0 where
-  pub tables : Tables o u c d
+pub record RunGives (f : List ℕ) (s : State) (r : Failure) (l : List ℕ) (c d : List Bool) : Type 0 where
+  pub tables : Tables l c d
   pub is : failureMeant r ≡ inOrder (checksOfSteps (caseOf f) (caseOf f .steps) 0 s)
-  pub state : stateOf o u c d ≡ afterRun (caseOf f) (caseOf f .steps) 0 s
+  pub state : stateOf l c d ≡ afterRun (caseOf f) (caseOf f .steps) 0 s

@@ -12,12 +12,16 @@ use case_parts::part;
 use rules::Policy;
 use rules::owed_by;
 use words::Failure;
+ghost use mathlib.Core.Path.{_≡_};
 ghost use Prim.Native.Nat.{_<_};
 ghost use lib.ListN.{length};
+ghost use Rattle.definition.specs.04-Checks.{inOrder};
 ghost use Rattle.definition.specs.11-Layout.{step-part, count};
 ghost use Rattle.definition.specs.17-Case.{caseOf};
+ghost use Rattle.definition.specs.31-Outcome.{owingChecks};
 ghost use Rattle.definition.specs.45-Promises.{Answered};
-ghost use Rattle.case_file.specs.LentCase.{CaseLent};
+ghost use Rattle.words.specs.Meanings.{failureMeant};
+ghost use Rattle.case_file.specs.LentCase.{Lent, CaseLent};
 ghost use Rattle.checker.specs.Meanings.{verdictMeant};
 ghost use Rattle.checker.specs.Reports.{proof, justifying, Reported};
 
@@ -26,29 +30,20 @@ fn check_steps(file: &[u8], book: &[u8], views: &[u16; 1024], room: &mut [u16]) 
     requires { ⌜ CaseLent (now file) (now book) (now views) × (0 < count (now file) step-part) ⌝ }
     ensures { λ r. ⌜ Reported (proof (caseOf (now (file .entry))) (length (now (room .entry)))) (now (room .entry)) r (now (room .exit)) ⌝ }
 {
-    let mut opens = [0u32; 2048];
-    let mut used = [false; 2048];
+    let mut left = [0u64; 2048];
     let mut cited = [false; 1024];
     let mut discharged = [false; 64];
-    let ran = run_steps(
-        file,
-        book,
-        views,
-        &mut opens,
-        &mut used,
-        &mut cited,
-        &mut discharged,
-    );
+    let ran = run_steps(file, book, views, &mut left, &mut cited, &mut discharged);
     match ran {
         Failure::At(number, place) => Verdict::Refused(number, place),
-        Failure::None => conclude(file, book, views, &opens, &used, &cited, &discharged, room),
+        Failure::None => conclude(file, book, &left, &cited, &discharged, room),
     }
 }
 
-// Checks 10 to 23 of an admitted case.
-fn check_admitted(file: &[u8], book: &[u8], views: &[u16; 1024], room: &mut [u16]) -> Verdict
-    requires { ⌜ CaseLent (now file) (now book) (now views) ⌝ }
-    ensures { λ r. ⌜ Reported (justifying (caseOf (now (file .entry))) (length (now (room .entry)))) (now (room .entry)) r (now (room .exit)) ⌝ }
+// Checks 10 and 11 of an admitted case.
+fn check_owing(file: &[u8], book: &[u8]) -> Failure
+    requires { ⌜ Lent (now file) (now book) ⌝ }
+    ensures { λ r. ⌜ failureMeant r ≡ inOrder (owingChecks (caseOf (now (file .entry)))) ⌝ }
 {
     let action = action_of(file) as usize;
     let owed = owed_by(book, agent_of(file), action);
@@ -56,13 +51,30 @@ fn check_admitted(file: &[u8], book: &[u8], views: &[u16; 1024], room: &mut [u16
     match owed {
         Policy::Nothing => {
             if 0 < steps {
-                return Verdict::Refused(11, 0);
+                return Failure::At(11, 0);
             }
-            Verdict::NoneOwed
+            Failure::None
         }
         Policy::Of(_) => {
             if steps == 0 {
-                return Verdict::Refused(10, 0);
+                return Failure::At(10, 0);
+            }
+            Failure::None
+        }
+    }
+}
+
+// Checks 10 to 23 of an admitted case. Where 10 and 11 let it pass, something is owed just if there are steps.
+fn check_admitted(file: &[u8], book: &[u8], views: &[u16; 1024], room: &mut [u16]) -> Verdict
+    requires { ⌜ CaseLent (now file) (now book) (now views) ⌝ }
+    ensures { λ r. ⌜ Reported (justifying (caseOf (now (file .entry))) (length (now (room .entry)))) (now (room .entry)) r (now (room .exit)) ⌝ }
+{
+    let owing = check_owing(file, book);
+    match owing {
+        Failure::At(number, place) => Verdict::Refused(number, place),
+        Failure::None => {
+            if count_of(file, STEPS) == 0 {
+                return Verdict::NoneOwed;
             }
             check_steps(file, book, views, room)
         }

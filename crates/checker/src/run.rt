@@ -13,30 +13,19 @@ pub fn run_steps(
     file: &[u8],
     book: &[u8],
     views: &[u16; 1024],
-    opens: &mut [u32; 2048],
-    used: &mut [bool; 2048],
+    left: &mut [u64; 2048],
     cited: &mut [bool; 1024],
     discharged: &mut [bool; 64],
 ) -> Failure
     requires { ⌜ CaseLent (now file) (now book) (now views) ⌝ }
-    requires { ⌜ Tables (now opens) (now used) (now cited) (now discharged) ⌝ }
-    ensures { λ r. ⌜ RunGives (now (file .entry)) (stateOf (now (opens .entry)) (now (used .entry)) (now (cited .entry)) (now (discharged .entry))) r (now (opens .exit)) (now (used .exit)) (now (cited .exit)) (now (discharged .exit)) ⌝ }
+    requires { ⌜ Tables (now left) (now cited) (now discharged) ⌝ }
+    ensures { λ r. ⌜ RunGives (now (file .entry)) (stateOf (now (left .entry)) (now (cited .entry)) (now (discharged .entry))) r (now (left .exit)) (now (cited .exit)) (now (discharged .exit)) ⌝ }
 {
     let each_use = each_use_labels(file);
     let n = count_of(file, STEPS);
     let mut k: usize = 0;
     while k < n {
-        let fault = take_step(
-            file,
-            book,
-            views,
-            each_use,
-            k,
-            opens,
-            used,
-            cited,
-            discharged,
-        );
+        let fault = take_step(file, book, views, each_use, k, left, cited, discharged);
         match fault {
             Failure::At(number, place) => {
                 return Failure::At(number, place);

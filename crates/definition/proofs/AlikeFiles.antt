@@ -3,12 +3,12 @@ use Prim.Native.Nat.{ℕ, _<_}
 use mathlib.Core.Path.{_≡_, fun-ext}
 use mathlib.Core.List.{List, [], _∷_}
 use native.Mathlib.Omega.{arith}
-use Rattle.definition.proofs.PartOrder.{same-count}
+use Rattle.definition.proofs.PartLaws.{same-count}
 use Rattle.definition.proofs.ViewLaws.{views-alike}
 use Rattle.definition.specs.04-Checks.{single, each}
-use Rattle.definition.specs.11-Layout.{formula-part, condition-part, obligation-part, label-part, step-part, premise-part, part, count, field}
+use Rattle.definition.specs.11-Layout.{formula-part, condition-part, obligation-part, label-part, step-part, premise-part, agentOf, part, count, field}
 use Rattle.definition.specs.14-Book.{treeIn}
-use Rattle.definition.specs.15-Records.{formulas, conditionFormula, obligationMark, obligationAction, labelMark, labelFormula, stepRule, stepFormula, stepArgument, stepFrom, stepCount, premiseStep, badCondition, badObligation, badLabel, badAudit, recordChecks}
+use Rattle.definition.specs.15-Records.{logOf, formulas, conditionFormula, obligationMark, obligationAction, labelMark, labelFormula, stepRule, stepFormula, stepArgument, stepFrom, stepCount, premiseStep, badCondition, badObligation, badLabel, badAudit, recordChecks}
 use Rattle.definition.specs.16-Views.{rowView}
 use Rattle.definition.specs.17-Case.{reading, caseOf}
 use Rattle.definition.specs.18-Admission.{Parted}
@@ -31,8 +31,8 @@ module _ (s t : List ℕ) (f : Parted s) (g : Parted t) (a : Alike s t) where
   unfolding formulas
   same-trees = rw (a .formulas)
 
-  same-views : rowView s (formulas s) ≡ rowView t (formulas t)
-  same-views = rw same-trees (fun-ext (views-alike s t a (formulas t)))
+  same-views : rowView (logOf s) (agentOf s) (formulas s) ≡ rowView (logOf t) (agentOf t) (formulas t)
+  same-views = rw (same-trees, ← a .agent) (fun-ext (views-alike (agentOf s) (logOf s) (logOf t) (a .log) (formulas t)))
 
   same-records : (p : ℕ) → p < 8 → part s p ≡ part t p → count s p ≡ count t p
   same-records = same-count s t f g
@@ -49,7 +49,7 @@ module _ (s t : List ℕ) (f : Parted s) (g : Parted t) (a : Alike s t) where
       record {
         agent = a .agent i;
         action = treeIn l (a .action i);
-        rows = a .rows i;
+        rows = a .log .rows i;
         row = same-views i;
         conditions = same-records condition-part (omega arith) (a .conditions) i;
         condition = λ k. reading l (condition k 0 i);

@@ -16,7 +16,7 @@ use Rattle.definition.specs.03-Lists.{Among, Disjoint}
 use Rattle.definition.specs.13-Formulas.{Formula, each-use}
 use Rattle.definition.specs.17-Case.{Case}
 use Rattle.definition.specs.21-Rules.{ruleAt}
-use Rattle.definition.specs.22-Steps.{Labels, ruleOf, premisesOf, isAnObligation, joined, leaves, share, stateAt}
+use Rattle.definition.specs.22-Steps.{Labels, opensIn, ruleOf, premisesOf, isAnObligation, joined, leaves, share, stateAt}
 use Rattle.definition.specs.42-Account.{bothSets, noLabels, IsStep, LabelsSplit, ObligationsSplit, Follows, Proof, by-rule, no-more, one-more}
 
 -- what a step of a tree has by itself
@@ -179,8 +179,8 @@ module _ (c : Case) (small : Small c) where
       let fo = followed c small w in
       let ps-are = i .premises-are in
       let opens : joined (openAt c) (premisesOf c k) ≡ L = ap (joined (openAt c)) ps-are ∙ sym (g .opens-are) in
-      let state-opens : joined (stateAt c k .opens) (premisesOf c k) ≡ joined (openAt c) (premisesOf c k) =
-      joined-same (stateAt c k .opens) (openAt c) (premisesOf c k) (λ p m. opens-at c k p (g .earlier p (moved-among p ps-are m))) in
+      let state-opens : joined (opensIn (stateAt c k)) (premisesOf c k) ≡ joined (openAt c) (premisesOf c k) =
+      joined-same (opensIn (stateAt c k)) (openAt c) (premisesOf c k) (λ p m. opens-at c k p (g .earlier p (moved-among p ps-are m))) in
       let sure : Sure c k =
       record {
         inside = i .inside;

@@ -1,25 +1,37 @@
--- The theorems of demands 1 and 2 on desk cases and examples of document 01's table, computed: their hypotheses can be met. Those of demand 3 are met in specs/55-HiddenRows.
+-- The theorems of demands 1 and 2 on desk cases and examples of document 01's table, computed: their hypotheses can be met. Those of demand 3 are met in specs/55-HiddenRows, and the last one here.
 -- Assumes nothing.
 use Prim.Native.Nat.{ℕ, zero, suc, _<_}
+use mathlib.Core.Bool.{true}
+use mathlib.Core.Logic.{inr, ⊎-elim}
 use mathlib.Core.Path.{_≡_, refl}
 use mathlib.Core.List.{List, [], _∷_}
 use native.Mathlib.Omega.{arith}
-use lib.ListN.{length}
+use lib.ListN.{length, getD}
+use lib.Dec.{ltb}
+use borrow.Author.Tests.{ltb-true}
+use Rattle.definition.proofs.AdmissionLaws.{admitted-parted}
 use Rattle.definition.proofs.CheckLaws.{all-hold}
 use Rattle.definition.proofs.CitedLists.{pass-lists}
 use Rattle.definition.proofs.NoneOwed.{none-owed-exactly}
 use Rattle.definition.proofs.PassesExactly.{passes-exactly, refused-for-room}
+use Rattle.definition.proofs.RangeLaws.{all-true}
 use Rattle.definition.proofs.RefusalTable.{refused-by-table}
+use Rattle.definition.proofs.StruckFile.{strikes-unseen}
+use Rattle.definition.specs.01-Words.{absent}
+use Rattle.definition.specs.02-Ranges.{all}
 use Rattle.definition.specs.04-Checks.{single, each, Holds, Fails, AllHold, here, later, accepts}
 use Rattle.definition.specs.13-Formulas.{Formula, each-use, once}
 use Rattle.definition.specs.17-Case.{caseOf}
 use Rattle.definition.specs.18-Admission.{admissionChecks, admission}
-use Rattle.definition.specs.22-Steps.{premisesOf, misshapen, badPremises, stepChecks, stateAt}
+use Rattle.definition.specs.19-Rewriting.{strike}
+use Rattle.definition.specs.22-Steps.{usedIn, premisesOf, misshapen, badPremises, stepChecks, stateAt}
 use Rattle.definition.specs.31-Outcome.{lastStep, unusedStep, openLabel, owingChecks, finalState, refused, outcome}
 use Rattle.definition.specs.42-Account.{Owes}
-use Rattle.definition.specs.44-Demands.{StepsHold, InTable, in-step, in-end, Passes, Justified, Needs, Lists}
+use Rattle.definition.specs.44-Demands.{StepsHold, InTable, in-step, in-end, Passes, Justified, Needs, Lists, HeaderOfBytes}
 use Rattle.definition.specs.51-Files.{createsRow}
+use Rattle.definition.specs.52-Evaluation.{evaluated}
 use Rattle.definition.specs.53-Desk.{lent, grantWith, grant, visit, twice, built}
+use Rattle.definition.specs.56-SeenRows.{fourRows, rows-admitted}
 use Rattle.definition.specs.58-Table.{grantByte, grantAnd, laterPremise, supposedOwed, builtTable}
 
 -- Demand 1: what a refusal by 2, 4, 13, 17, 21 and 23 says.
@@ -54,7 +66,7 @@ premise-fails =
     let c = caseOf laterPremise in
     let first : AllHold (stepChecks c 0 (stateAt c 0)) = all-hold (stepChecks c 0 (stateAt c 0)) refl in
     let shape : Holds (single 12 1 (misshapen c 1)) = refl in
-    let fails : Fails (single 13 1 (badPremises (stateAt c 1 .used) 1 (premisesOf c 1))) 13 1 = (refl, refl, refl) in
+    let fails : Fails (single 13 1 (badPremises (usedIn (stateAt c 1)) 1 (premisesOf c 1))) 13 1 = (refl, refl, refl) in
     in-step {k = 1} (all-hold (admissionChecks laterPremise) refl) (all-hold (owingChecks c) refl) (omega arith) (only-first first) (later shape (here fails))
   where
     only-first : AllHold (stepChecks (caseOf laterPremise) 0 (stateAt (caseOf laterPremise) 0)) → StepsHold (caseOf laterPremise) 1
@@ -120,3 +132,17 @@ creator = grantWith 0 0 0 0 [] []
 pub creator-owes-nothing : (admission creator ≡ accepts tt) × (caseOf creator .steps ≡ 0) × ((f : Formula) → Owes (caseOf creator .agent) (caseOf creator .action) f → ⊥)
 unfolding built
 creator-owes-nothing = none-owed-exactly creator lent .0 refl
+
+-- Demand 3: the header's bytes stay where it is made of bytes, and this one is.
+low-header : all (λ j. ltb (getD (fourRows 0 (absent ∷ [])) j 0) 256) 36 0 ≡ true
+unfolding evaluated fourRows
+low-header = refl
+
+header-of-bytes : HeaderOfBytes (fourRows 0 (absent ∷ []))
+header-of-bytes i h = ltb-true _ 256 (all-true (λ j. ltb (getD (fourRows 0 (absent ∷ [])) j 0) 256) 36 0 low-header i (omega arith) (omega arith))
+
+pub header-kept : getD (strike (fourRows 0 (absent ∷ []))) 0 0 ≡ 5
+unfolding evaluated fourRows
+header-kept =
+    strikes-unseen (fourRows 0 (absent ∷ [])) (admitted-parted (fourRows 0 (absent ∷ [])) rows-admitted) .2 0
+    (λ k h u e. ⊎-elim (λ q. omega (arith, q)) (λ q. omega (arith, q)) e) (inr header-of-bytes)

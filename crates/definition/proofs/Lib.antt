@@ -10,7 +10,7 @@ pub mod OneNumber
 pub mod OccurrenceLaws
 pub mod DataLaws
 pub mod PartLaws
-pub mod PartOrder
+pub mod Rewriting
 pub mod Spans
 pub mod ViewLaws
 pub mod AlikeFiles

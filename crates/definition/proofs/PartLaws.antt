@@ -1,14 +1,16 @@
 -- A file that checks 1 and 2 let pass has its parts where the header says, whole. Assumes nothing.
 use Prim.Native.Nat.{ℕ, _+_, _/_, _%_, _≤_, _<_}
-use mathlib.Core.Path.{_≡_, ap}
+use mathlib.Core.Path.{_≡_, sym, ap, _∙_}
 use mathlib.Core.Bool.{false, not, _&&_}
 use mathlib.Core.List.{List}
+use native.Mathlib.Omega.{arith}
 use lib.ListN.{length}
 use lib.Dec.{eqb, ltb}
 use borrow.Author.Tests.{not-false, eqb-true, ltb-false}
 use Rattle.definition.proofs.Tests.{or-false}
 use Rattle.definition.proofs.Windows.{window-length}
-use Rattle.definition.specs.11-Layout.{headerBytes, mostBytes, recordBytes, mostRecords, premise-part, observer-part, log-part, step-part, offset, size, end, count, part, held, dueOffset, badLength, orphans, isMisplaced, faultyPart}
+use Rattle.definition.specs.11-Layout.{headerBytes, mostBytes, recordBytes, mostRecords, premise-part, observer-part, log-part, step-part, offset, size, end, count, part, recordsIn, dueOffset, badLength, orphans, isMisplaced, faultyPart}
+use Rattle.definition.specs.15-Records.{logOf, rowsIn}
 use Rattle.definition.specs.18-Admission.{Parted}
 
 -- A file that check 1 lets pass has a header, and not too many bytes.
@@ -23,12 +25,19 @@ module _ (s : List ℕ) (g : Parted s) where
   header-inside = long-header s (g .long) .0
 
   module _ (p : ℕ) (known : p < 8) where
-    -- The four tests of `isMisplaced`, passed.
+    -- The tests of `faultyPart`, passed, and then the four of `isMisplaced`.
+    tested : (isMisplaced s p ≡ false) × (eqb p premise-part && ltb (end s p) (length s) ≡ false) × (eqb p observer-part && orphans s log-part observer-part ≡ false) × (eqb p premise-part && orphans s step-part premise-part ≡ false)
+    unfolding faultyPart
+    tested =
+        let steps = or-false _ (eqb p premise-part && orphans s step-part premise-part) (g .sound p known) in
+        let rows = or-false _ (eqb p observer-part && orphans s log-part observer-part) (steps .0) in
+        let ends = or-false (isMisplaced s p) (eqb p premise-part && ltb (end s p) (length s)) (rows .0) in
+        (ends .0, ends .1, rows .1, steps .1)
+
     placed : (offset s p ≡ dueOffset s p) × (size s p % recordBytes p ≡ 0) × (count s p ≤ mostRecords p) × (end s p ≤ length s)
-    unfolding faultyPart isMisplaced
+    unfolding isMisplaced
     placed =
-        let misplaced = or-false _ (eqb p premise-part && ltb (end s p) (length s)) (or-false _ (eqb p observer-part && orphans s log-part observer-part) (or-false _ (eqb p premise-part && orphans s step-part premise-part) (g .sound p known) .0) .0) .0 in
-        let inside = or-false _ (ltb (length s) (end s p)) misplaced in
+        let inside = or-false _ (ltb (length s) (end s p)) (tested .0) in
         let few = or-false _ (ltb (mostRecords p) (count s p)) (inside .0) in
         let due = or-false (not (eqb (offset s p) (dueOffset s p))) (not (eqb (size s p % recordBytes p) 0)) (few .0) in (
           eqb-true _ _ (not-false _ (due .0)),
@@ -55,6 +64,26 @@ module _ (s : List ℕ) (g : Parted s) where
     part-length = window-length s (size s p) (offset s p) part-inside
 
     -- The part has as many records as the header says.
-    pub held-count : held s p ≡ count s p
-    unfolding held count
+    pub held-count : recordsIn (part s p) p ≡ count s p
+    unfolding recordsIn count
     held-count = ap (λ (n : ℕ). n / recordBytes p) part-length
+
+  -- The last part ends the file, and there are no observers without log rows and no premises without steps.
+  pub all-covered : end s premise-part ≡ length s
+  unfolding end
+  all-covered = omega (arith, part-inside premise-part (omega arith), ltb-false (end s premise-part) (length s) (tested premise-part (omega arith) .1))
+
+  pub rows-observed : orphans s log-part observer-part ≡ false
+  rows-observed = tested observer-part (omega arith) .2
+
+  pub steps-premised : orphans s step-part premise-part ≡ false
+  steps-premised = tested premise-part (omega arith) .3
+
+  -- The log has as many rows as the header says.
+  pub log-rows : rowsIn (logOf s) ≡ count s log-part
+  unfolding rowsIn logOf
+  log-rows = held-count log-part (omega arith)
+
+-- Equal parts hold equally many records.
+pub same-count : (s t : List ℕ) → Parted s → Parted t → (p : ℕ) → p < 8 → part s p ≡ part t p → count s p ≡ count t p
+same-count s t f g p h e = sym (held-count s f p h) ∙ ap (λ (b : List ℕ). recordsIn b p) e ∙ held-count t g p h

@@ -19,18 +19,18 @@ use Rattle.definition.specs.13-Formulas.{Formula}
 use Rattle.definition.specs.14-Book.{bookChecks}
 use Rattle.definition.specs.15-Records.{logChecks, recordChecks}
 use Rattle.definition.specs.17-Case.{Case, caseOf}
-use Rattle.definition.specs.18-Admission.{admissionChecks, admission}
+use Rattle.definition.specs.18-Admission.{checksToLog, admissionChecks, admission}
 use Rattle.definition.specs.21-Rules.{isThat}
-use Rattle.definition.specs.22-Steps.{startState, citationChecks, fitChecks, shapeChecks, useChecks, stepChecks, checksOfSteps, stateAt}
-use Rattle.definition.specs.31-Outcome.{justified, owes, isOwed, hasSteps, noProof, needlessProof, lastStep, unusedStep, openLabel, wrongEnd, dischargedList, citedList, needed, shortRoom, owingChecks, endChecks, finalState, proofChecks, checksIfOwed, caseChecks, allChecks, foundIfOwed, found, finding}
+use Rattle.definition.specs.22-Steps.{opensIn, usedIn, startState, citationChecks, fitChecks, shapeChecks, useChecks, stepChecks, checksOfSteps, stateAt}
+use Rattle.definition.specs.31-Outcome.{justified, owes, isOwed, hasSteps, noProof, needlessProof, lastStep, unusedStep, openLabel, wrongEnd, dischargedList, citedList, needed, shortRoom, owingChecks, closingChecks, roomChecks, endChecks, finalState, proofChecks, checksIfOwed, caseChecks, allChecks, foundIfOwed, found, finding}
 use Rattle.definition.specs.44-Demands.{StepsHold, InTable, in-admission, in-owing, in-step, in-end}
 
 -- a justification of f that no check finds fault with, whatever the room
 pub record Proves (c : Case) (f : Formula) : Type 0 where
   pub some-step : 0 < c .steps
   pub fine : StepsHold c (c .steps)
-  pub used : (j : ℕ) → j < lastStep c → finalState c .used j ≡ true
-  pub none-open : (l : ℕ) → l < c .labels → finalState c .opens (lastStep c) l ≡ false
+  pub used : (j : ℕ) → j < lastStep c → usedIn (finalState c) j ≡ true
+  pub none-open : (l : ℕ) → l < c .labels → opensIn (finalState c) (lastStep c) l ≡ false
   pub last-is : c .step (lastStep c) .formula ≡ f
 
 -- the file is admitted, f is owed, and the justification proves it
@@ -71,7 +71,7 @@ module _ (s : List ℕ) where
 
   -- All checks held, and something was owed.
   held-proved : {f : Formula} (m : ℕ) → owes c ≡ some f → AllHold (allChecks s m) → Proved s × (entries s ≤ m)
-  unfolding allChecks caseChecks checksIfOwed proofChecks endChecks shortRoom entries stateAt
+  unfolding allChecks caseChecks checksIfOwed proofChecks closingChecks roomChecks endChecks shortRoom entries stateAt
   held-proved {f} m owed h =
       let a = both-hold (admissionChecks s) (caseChecks c m) h in
       let o = both-hold (owingChecks c) (checksIfOwed (owes c) c m) (a .1) in
@@ -88,7 +88,7 @@ module _ (s : List ℕ) where
 
   -- Check 23 was the first to fail.
   pub short-proved : (m n : ℕ) → InTable s m 23 n → Proved s × (entries s ≡ n) × (m < n)
-  unfolding admissionChecks layoutChecks bookChecks logChecks recordChecks owingChecks stepChecks shapeChecks useChecks citationChecks fitChecks endChecks shortRoom entries
+  unfolding checksToLog admissionChecks layoutChecks bookChecks logChecks recordChecks owingChecks stepChecks shapeChecks useChecks citationChecks fitChecks closingChecks roomChecks endChecks shortRoom entries
   short-proved m n (in-admission f) = other-number (admissionChecks s) refl f
   short-proved m n (in-owing a f) = other-number (owingChecks c) refl f
   short-proved m n (in-step {k = k} a o lt before f) = other-number (stepChecks c k (stateAt c k)) refl f
@@ -114,7 +114,7 @@ module _ (s : List ℕ) where
     last-right = rw (p .owed, p .proves .last-is, same-refl (p .owed-is))
 
     pub proved-passes : (m : ℕ) → entries s ≤ m → finding s m ≡ accepts (justified (dischargedList c (finalState c)) (citedList c (finalState c)))
-    unfolding admission allChecks caseChecks checksIfOwed proofChecks endChecks unusedStep openLabel shortRoom entries found foundIfOwed
+    unfolding admission allChecks caseChecks checksIfOwed proofChecks closingChecks roomChecks endChecks unusedStep openLabel shortRoom entries found foundIfOwed
     proved-passes m enough =
         let ends : AllHold (endChecks c (finalState c) m) = (λ k lt. rw (p .proves .used k lt), (p .proves .none-open, (last-right, (le-ltb m (needed c (finalState c)) enough, tt)))) in
         let proof : AllHold (proofChecks c m) = hold-both (checksOfSteps c (c .steps) 0 startState) (endChecks c (finalState c) m) before-end ends in
@@ -122,7 +122,7 @@ module _ (s : List ℕ) where
         holds-finding s m (hold-both (admissionChecks s) (caseChecks c m) (all-hold (admissionChecks s) (p .admitted)) rest) ∙ rw (p .owed)
 
     pub proved-short : (m : ℕ) → m < entries s → finding s m ≡ refuses 23 (entries s)
-    unfolding admission allChecks caseChecks checksIfOwed proofChecks endChecks unusedStep openLabel shortRoom entries
+    unfolding admission allChecks caseChecks checksIfOwed proofChecks closingChecks roomChecks endChecks unusedStep openLabel shortRoom entries
     proved-short m short =
         let used : Holds (each 20 (lastStep c) (unusedStep (finalState c))) = λ k lt. rw (p .proves .used k lt) in
         let fails : Fails (single 23 (needed c (finalState c)) (shortRoom c (finalState c) m)) 23 (entries s) = (refl, refl, lt-ltb m (needed c (finalState c)) short) in

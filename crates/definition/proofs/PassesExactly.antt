@@ -9,7 +9,7 @@ use lib.ListN.{length}
 use Rattle.definition.proofs.AdmissionLaws.{admitted-parted}
 use Rattle.definition.proofs.Complete.{Grown, grown, tests-at}
 use Rattle.definition.proofs.ConclusionLaws as conclusions
-use Rattle.definition.proofs.PartLaws.{part-few}
+use Rattle.definition.proofs.PartLaws.{part-few, log-rows}
 use Rattle.definition.proofs.Findings.{reported-pass}
 use Rattle.definition.proofs.Passes.{Proves, Proved, entries, finding-proved, proved-passes, proved-short, short-proved}
 use Rattle.definition.proofs.RefusalTable.{refused-by-table}
@@ -26,7 +26,7 @@ use Rattle.definition.specs.11-Layout.{mostRecords, condition-part, log-
 use Rattle.definition.specs.13-Formulas.{Formula}
 use Rattle.definition.specs.17-Case.{Case, caseOf}
 use Rattle.definition.specs.18-Admission.{admission}
-use Rattle.definition.specs.22-Steps.{Labels, startState, next, premisesOf, isAnObligation, stateAt}
+use Rattle.definition.specs.22-Steps.{Labels, opensIn, startState, next, premisesOf, isAnObligation, stateAt}
 use Rattle.definition.specs.31-Outcome.{owes, lastStep, dischargedList, citedList, finalState, finding, report, outcome}
 use Rattle.definition.specs.42-Account.{Account}
 use Rattle.definition.specs.44-Demands.{StepsHold, Justified, PassesExactly, RefusedForRoom}
@@ -59,18 +59,18 @@ module _ (c : Case) (f : Formula) (small : Small c) (a : Account c f) where
   whole : Grown c (c .steps - 1) f (a .opens) (a .spent) (a .steps)
   whole = grown c small (a .proof)
 
-  opens-same : (k : ℕ) → k < c .steps → (p : ℕ) → Among p (premisesOf c k) → openAt c p ≡ stateAt c k .opens p
+  opens-same : (k : ℕ) → k < c .steps → (p : ℕ) → Among p (premisesOf c k) → openAt c p ≡ opensIn (stateAt c k) p
   opens-same k lt p m = sym (opens-at c k p (whole .region .sure k (a .all-used k lt) .earlier p m))
 
-  local-now : (k : ℕ) → k < c .steps → Local c (stateAt c k .opens) k
+  local-now : (k : ℕ) → k < c .steps → Local c (opensIn (stateAt c k)) k
   local-now k lt =
       let l = whole .region .sure k (a .all-used k lt) .local in
       record {
         number = l .number;
         policy = l .policy;
         closed = l .closed;
-        tests = tests-at refl refl refl refl (sym (joined-same (openAt c) (stateAt c k .opens) (premisesOf c k) (opens-same k lt))) (l .tests);
-        split = share-same c (openAt c) (stateAt c k .opens) (premisesOf c k) (opens-same k lt) (l .split);
+        tests = tests-at refl refl refl refl (sym (joined-same (openAt c) (opensIn (stateAt c k)) (premisesOf c k) (opens-same k lt))) (l .tests);
+        split = share-same c (openAt c) (opensIn (stateAt c k)) (premisesOf c k) (opens-same k lt) (l .split);
       }
 
   account-fine : StepsHold c (c .steps)
@@ -124,7 +124,7 @@ case-small s e =
     let f = admitted-parted s e in
     record {
       conditions = omega (arith, part-few s f condition-part (omega arith));
-      rows = omega (arith, part-few s f log-part (omega arith));
+      rows = omega (arith, part-few s f log-part (omega arith), log-rows s f);
       obligations = omega (arith, part-few s f obligation-part (omega arith));
       labels = omega (arith, part-few s f label-part (omega arith));
     }

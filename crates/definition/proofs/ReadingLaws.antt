@@ -12,7 +12,7 @@ use borrow.Author.Tests.{ltb-true, ltb-false, lt-ltb, le-ltb}
 use Rattle.definition.specs.03-Lists.{joinAll}
 use Rattle.definition.specs.04-Checks.{single, Fails, here}
 use Rattle.definition.specs.11-Layout.{headerBytes, mostBytes, badLength, layoutChecks}
-use Rattle.definition.specs.18-Admission.{admissionChecks}
+use Rattle.definition.specs.18-Admission.{checksToLog, admissionChecks}
 use Rattle.definition.specs.31-Outcome.{refused, allChecks, report, outcome}
 use Rattle.definition.specs.34-Program.{Answer, gives, error, Reading, so-far, whole, failed, filled, readOn, readAll, NoneEmpty, CutsDoNotShow, ErrorsShow, NothingHalfRead, mostRead, UnreadDoesNotShow}
 use Rattle.definition.proofs.Tests.{or-intro-right}
@@ -156,7 +156,7 @@ nothing-half-read most answers bytes e = all-given most [] (omega arith) answers
 
 -- A file that is too long is refused by check 1.
 too-long : (s room : List ℕ) → mostBytes < length s → outcome s room ≡ record { verdict = refused 1 0; room = room }
-unfolding outcome report allChecks admissionChecks layoutChecks badLength
+unfolding outcome report allChecks admissionChecks checksToLog layoutChecks badLength
 too-long s room h =
     let fails : Fails (single 1 0 (badLength s)) 1 0 = (refl, refl, or-intro-right (ltb (length s) headerBytes) (lt-ltb mostBytes (length s) h)) in
     rw (fault-finding s (length room) (here fails))

@@ -8,7 +8,7 @@ use lib.ListN.{length, drop, length-append, length-drop, length-replicate}
 use lib.Seq.{drop-append-seam}
 use Rattle.definition.proofs.AdmissionLaws.{admitted-parted}
 use Rattle.definition.proofs.Findings.{reported-pass, reported-none, reported-refusal}
-use Rattle.definition.proofs.PartLaws.{part-few}
+use Rattle.definition.proofs.PartLaws.{part-few, log-rows}
 use Rattle.definition.proofs.Passes.{Proved, entries, finding-proved, short-proved}
 use Rattle.definition.proofs.RangeLaws.{members-length}
 use Rattle.definition.proofs.RefusalTable.{refused-by-table}
@@ -57,7 +57,7 @@ entries-few s w =
     let c = caseOf s in
     let f = admitted-parted s (w .admitted) in
     omega
-    (arith, members-length (finalState c .discharged) (c .obligations) 0, members-length (finalState c .cited) (c .rows) 0, part-few s f obligation-part (omega arith), part-few s f log-part (omega arith))
+    (arith, members-length (finalState c .discharged) (c .obligations) 0, members-length (finalState c .cited) (c .rows) 0, part-few s f obligation-part (omega arith), part-few s f log-part (omega arith), log-rows s f)
 
 pub lent-room-suffices : LentRoomSuffices
 lent-room-suffices s n e =

@@ -16,7 +16,7 @@ use Rattle.definition.specs.03-Lists.{Among, Disjoint}
 use Rattle.definition.specs.13-Formulas.{each-use}
 use Rattle.definition.specs.17-Case.{Case}
 use Rattle.definition.specs.21-Rules.{ruleAt}
-use Rattle.definition.specs.22-Steps.{Labels, ruleOf, premisesOf, isAnObligation, joined, share, next, startState, stateAt}
+use Rattle.definition.specs.22-Steps.{Labels, opensIn, usedIn, ruleOf, premisesOf, isAnObligation, joined, share, next, startState, stateAt}
 use Rattle.definition.specs.42-Account.{bothSets, noLabels, ObligationsSplit, Follows, Proof, Proofs, by-rule, no-more, one-more}
 use Rattle.definition.specs.44-Demands.{StepsHold}
 
@@ -161,9 +161,9 @@ module _ (c : Case) (fine : StepsHold c (c .steps)) where
   tree (suc fuel) k lt lk =
       let l = parts k lk .local in
       let ps = premisesOf c k in
-      let same : (p : ℕ) → Among p ps → stateAt c k .opens p ≡ openAt c p = λ p m. opens-at c k p (earlier lk m) in
-      let ts = premise-trees k lk (λ p lp. tree fuel p (omega arith) (omega arith)) ps (λ p m. m) (parts k lk .usable .distinct) (share-same c (stateAt c k .opens) (openAt c) ps same (l .split)) in
-      let follows = subst (λ (L : Labels). Follows c (c .step k .rule) (c .step k .formula) (c .step k .argument) (premiseFormulas c k) L (openAt c k) (spends (c .step k .rule) (c .step k .argument))) (joined-same (stateAt c k .opens) (openAt c) ps same) (tests-follow c (c .step k .rule) (c .step k .formula) (c .step k .argument) (premiseFormulas c k) (joined (stateAt c k .opens) ps) (l .number) (l .tests)) in
+      let same : (p : ℕ) → Among p ps → opensIn (stateAt c k) p ≡ openAt c p = λ p m. opens-at c k p (earlier lk m) in
+      let ts = premise-trees k lk (λ p lp. tree fuel p (omega arith) (omega arith)) ps (λ p m. m) (parts k lk .usable .distinct) (share-same c (opensIn (stateAt c k)) (openAt c) ps same (l .split)) in
+      let follows = subst (λ (L : Labels). Follows c (c .step k .rule) (c .step k .formula) (c .step k .argument) (premiseFormulas c k) L (openAt c k) (spends (c .step k .rule) (c .step k .argument))) (joined-same (opensIn (stateAt c k)) (openAt c) ps same) (tests-follow c (c .step k .rule) (c .step k .formula) (c .step k .argument) (premiseFormulas c k) (joined (opensIn (stateAt c k)) ps) (l .number) (l .tests)) in
       let split : ObligationsSplit c (spends (c .step k .rule) (c .step k .argument)) (ts .spent) =
       λ o e m n.
       let w = ts .spends-only o n in
@@ -181,7 +181,7 @@ module _ (c : Case) (fine : StepsHold c (c .steps)) where
       }
 
   -- where each step before the last is a premise, all steps are in the tree of the last
-  pub reaches : (last : ℕ) → last + 1 ≡ c .steps → ((j : ℕ) → j < last → stateAt c (c .steps) .used j ≡ true) → (fuel x : ℕ) → last ≤ x + fuel → x < c .steps → Below c x last
+  pub reaches : (last : ℕ) → last + 1 ≡ c .steps → ((j : ℕ) → j < last → usedIn (stateAt c (c .steps)) j ≡ true) → (fuel x : ℕ) → last ≤ x + fuel → x < c .steps → Below c x last
   reaches last e used zero x le lt = let is : x ≡ last = omega arith in rw is itself
   reaches last e used (suc fuel) x le lt =
       ⊎-elim (λ l. let u = used-before c (c .steps) x (used x l) in let h = earlier (u .1) (u .2) in under (u .2) (reaches last e used fuel (u .0) (omega arith) (u .1)))

@@ -14,7 +14,7 @@ use Rattle.definition.specs.02-Ranges.{update}
 use Rattle.definition.specs.03-Lists.{Among}
 use Rattle.definition.specs.17-Case.{Case}
 use Rattle.definition.specs.21-Rules.{Names}
-use Rattle.definition.specs.22-Steps.{State, startState, Labels, ruleOf, premisesOf, joined, leaves, markAll, markIf, next, stateAt}
+use Rattle.definition.specs.22-Steps.{State, opensIn, usedIn, startState, Labels, ruleOf, premisesOf, joined, leaves, markAll, markIf, next, stateAt}
 
 pub update-same : {A : Type 0} (f : ℕ → A) (k : ℕ) (v : A) → update f k v k ≡ v
 unfolding update
@@ -63,19 +63,19 @@ among-marked used (q ∷ ps) p (inr m) = among-marked (update used q true) ps p 
 abbrev pub UsedBefore : Case → ℕ → ℕ → Type 0
 UsedBefore c k p = (j : ℕ) × (j < k) × Among p (premisesOf c j)
 
-pub used-before : (c : Case) (k p : ℕ) → stateAt c k .used p ≡ true → UsedBefore c k p
+pub used-before : (c : Case) (k p : ℕ) → usedIn (stateAt c k) p ≡ true → UsedBefore c k p
 unfolding stateAt startState next
 used-before c zero p e = absurd (not-both e refl)
 used-before c (suc k) p e =
     ⊎-elim (λ u. let b = used-before c k p u in (b .0, omega arith, b .2)) (λ m. (k, omega arith, m))
-    (marked-among (stateAt c k .used) (premisesOf c k) p e)
+    (marked-among (usedIn (stateAt c k)) (premisesOf c k) p e)
 
-pub before-used : (c : Case) (k j p : ℕ) → j < k → Among p (premisesOf c j) → stateAt c k .used p ≡ true
+pub before-used : (c : Case) (k j p : ℕ) → j < k → Among p (premisesOf c j) → usedIn (stateAt c k) p ≡ true
 unfolding stateAt startState next
 before-used c zero j p lt m = absurd (omega arith)
 before-used c (suc k) j p lt m =
-    ⊎-elim (λ e. among-marked (stateAt c k .used) (premisesOf c k) p (rw (← e) m))
-    (λ l. marks-kept (stateAt c k .used) (premisesOf c k) p (before-used c k j p l m)) (eq-or-lt-of-le (le-of-suc-le-suc lt))
+    ⊎-elim (λ e. among-marked (usedIn (stateAt c k)) (premisesOf c k) p (rw (← e) m))
+    (λ l. marks-kept (usedIn (stateAt c k)) (premisesOf c k) p (before-used c k j p l m)) (eq-or-lt-of-le (le-of-suc-le-suc lt))
 
 -- The rows cited and the obligations discharged are marked alike: by the steps whose argument names such an entry.
 module _ (c : Case) (marks : State → ℕ → Bool) (named : Names → Bool)
@@ -119,14 +119,14 @@ module _ (c : Case) (marks : State → ℕ → Bool) (named : Names → Bool)
 
 -- the labels that step j leaves open
 unfoldable pub openAt : Case → ℕ → Labels
-openAt c j = leaves (ruleOf c j .effect) (c .step j .argument) (joined (stateAt c j .opens) (premisesOf c j))
+openAt c j = leaves (ruleOf c j .effect) (c .step j .argument) (joined (opensIn (stateAt c j)) (premisesOf c j))
 
-pub opens-at : (c : Case) (k j : ℕ) → j < k → stateAt c k .opens j ≡ openAt c j
+pub opens-at : (c : Case) (k j : ℕ) → j < k → opensIn (stateAt c k) j ≡ openAt c j
 unfolding stateAt next openAt
 opens-at c zero j lt = absurd (omega arith)
 opens-at c (suc k) j lt =
-    ⊎-elim (λ e. rw e (update-same (stateAt c k .opens) k _))
-    (λ l. update-other (stateAt c k .opens) k _ j (λ e. omega arith) ∙ opens-at c k j l) (eq-or-lt-of-le (le-of-suc-le-suc lt))
+    ⊎-elim (λ e. rw e (update-same (opensIn (stateAt c k)) k _))
+    (λ l. update-other (opensIn (stateAt c k)) k _ j (λ e. omega arith) ∙ opens-at c k j l) (eq-or-lt-of-le (le-of-suc-le-suc lt))
 
 pub joined-same : (O Q : ℕ → Labels) (ps : List ℕ) → ((p : ℕ) → Among p ps → O p ≡ Q p) → joined O ps ≡ joined Q ps
 unfolding joined

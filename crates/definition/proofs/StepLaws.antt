@@ -17,7 +17,7 @@ use Rattle.definition.proofs.OccurrenceLaws.{policy-is, closed-is}
 use Rattle.definition.specs.15-Records.{badSpan}
 use Rattle.definition.specs.17-Case.{Case}
 use Rattle.definition.proofs.Spans as laws
-use Rattle.definition.specs.22-Steps.{State, Labels, ruleOf, premisesOf, mustBeAbsent, misshapen, isAnObligation, joined, isEachUse, isAdding, share, usedTwice, misfit, notFresh, citationChecks, fitChecks, shapeChecks, useChecks, stepChecks}
+use Rattle.definition.specs.22-Steps.{State, opensIn, usedIn, Labels, ruleOf, premisesOf, mustBeAbsent, misshapen, isAnObligation, joined, isEachUse, isAdding, share, usedTwice, misfit, notFresh, citationChecks, fitChecks, shapeChecks, useChecks, stepChecks}
 use Rattle.definition.specs.42-Account.{SpansAdjoin}
 use Rattle.definition.proofs.States.{Fine}
 use Rattle.definition.proofs.PremiseLaws.{Usable, premises-usable, usable-premises, listed-length}
@@ -55,8 +55,8 @@ unfolding stepChecks shapeChecks
 fine-shaped c k s f = f .0
 
 pub record Parts (c : Case) (k : ℕ) (s : State) : Type 0 where
-  pub local : Local c (s .opens) k
-  pub usable : Usable (s .used) k (premisesOf c k)
+  pub local : Local c (opensIn s) k
+  pub usable : Usable (usedIn s) k (premisesOf c k)
   pub span : spanFault c k ≡ false
   pub once : SpentOnce c s k
 
@@ -70,8 +70,8 @@ fine-parts c k s f =
     let f3 = or-false _ (spanFault c k) (f4 .0) in
     let f2 = or-false (ltb 15 (c .step k .rule)) (not (isPolicy (c .step k .formula) && closed (c .step k .formula))) (f3 .0) in
     let pc = and-true (isPolicy (c .step k .formula)) (closed (c .step k .formula)) (not-false _ (f2 .1)) in
-    let u3 = or-false _ (isAdding (ruleOf c k .effect) && isEachUse c (c .step k .argument) && joined (s .opens) (premisesOf c k) (c .step k .argument)) (by-number 17 checks f .0) in
-    let u2 = or-false (isAnObligation (ruleOf c k .names) && eqb (c .obligation (c .step k .argument) .mark) each-use && s .discharged (c .step k .argument)) (share c (s .opens) (premisesOf c k)) (u3 .0) in
+    let u3 = or-false _ (isAdding (ruleOf c k .effect) && isEachUse c (c .step k .argument) && joined (opensIn s) (premisesOf c k) (c .step k .argument)) (by-number 17 checks f .0) in
+    let u2 = or-false (isAnObligation (ruleOf c k .names) && eqb (c .obligation (c .step k .argument) .mark) each-use && s .discharged (c .step k .argument)) (share c (opensIn s) (premisesOf c k)) (u3 .0) in
     record {
       local = record {
         number = omega (arith, ltb-false 15 (c .step k .rule) (f2 .0));
@@ -88,7 +88,7 @@ fine-parts c k s f =
         };
         split = u2 .1;
       };
-      usable = premises-usable (s .used) k (premisesOf c k) (by-number 13 checks f .0);
+      usable = premises-usable (usedIn s) k (premisesOf c k) (by-number 13 checks f .0);
       span = f3 .1;
       once = λ n m d. not-both (and-intro (and-intro n (eq-eqb _ each-use m)) d) (u2 .0);
     }
@@ -104,7 +104,7 @@ parts-fine c k s p =
     never-true _ (λ e. let a = and-true _ (s .discharged (c .step k .argument)) e in let b = and-true _ (eqb (c .obligation (c .step k .argument) .mark) each-use) (a .0) in p .once (b .0) (eqb-true _ each-use (b .1)) (a .1)) in
     let shape : misshapen c k ≡ false =
     rw (le-ltb 15 (c .step k .rule) (omega (arith, l .number)), policy-is _ .1 (l .policy), closed-is _ .1 (l .closed), p .span, least, most) (t .argument) in
-    let taken = usable-premises (s .used) k (premisesOf c k) (p .usable) in
+    let taken = usable-premises (usedIn s) k (premisesOf c k) (p .usable) in
     hold-both (shapeChecks c k s) (useChecks c k s)
     (shape, (taken, t .cites))
     (rw (spent, l .split) (t .added), (rw (t .fits), (t .fresh, tt)))

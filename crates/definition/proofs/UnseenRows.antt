@@ -9,24 +9,27 @@ use lib.ListN.{length}
 use Rattle.definition.proofs.AdmissionLaws.{in-groups, layout-parted, parted-layout}
 use Rattle.definition.proofs.AlikeFiles.{Same, same}
 use Rattle.definition.proofs.CheckLaws.{then-assoc, second-agrees, never-both, all-hold, hold-all, first-fault, fault-first, in-order-append}
-use Rattle.definition.proofs.StruckFile.{struck-or-parted, parted-struck, alike-struck, log-stays-good, log-stays-bad}
-use Rattle.definition.specs.04-Checks.{FirstFault, here, later, AllHold, Checked, accepts, refuses, _>>_, inOrder}
-use Rattle.definition.specs.11-Layout.{formula-part, part, layoutChecks}
+use Rattle.definition.proofs.StruckFile.{struck-or-parted, parted-struck, log-struck, alike-struck, log-stays-good, log-stays-bad}
+use Rattle.definition.specs.04-Checks.{Check, FirstFault, here, later, AllHold, Checked, accepts, refuses, _>>_, inOrder}
+use Rattle.definition.specs.11-Layout.{formula-part, agentOf, part, layoutChecks}
 use Rattle.definition.specs.14-Book.{bookChecks}
-use Rattle.definition.specs.15-Records.{formulas, logChecks, recordChecks}
-use Rattle.definition.specs.16-Views.{strike}
+use Rattle.definition.specs.15-Records.{logOf, formulas, logChecks, recordChecks}
 use Rattle.definition.specs.17-Case.{caseOf}
 use Rattle.definition.specs.18-Admission.{Parted, admissionChecks, admission}
+use Rattle.definition.specs.19-Rewriting.{strike}
 use Rattle.definition.specs.31-Outcome.{Finding, caseChecks, allChecks, found, finding, report, outcome}
 use Rattle.definition.specs.43-Alike.{Alike}
-use Rattle.definition.specs.44-Demands.{LeftAside, WellMade, WellMadeFile, Mended, UnseenRowsAreUnseen, AsIfStruck}
+use Rattle.definition.specs.44-Demands.{LeftAside, Mended, checking, admitting, UnseenRowsAreUnseen, AsIfStruck}
 
 -- Checks 3 and 4, and check 5.
 abbrev book-run : List ℕ → Checked (Unit {0})
 book-run s = inOrder (bookChecks (part s formula-part))
 
+abbrev log-checks : List ℕ → List Check
+log-checks s = logChecks (logOf s) (formulas s)
+
 abbrev log-run : List ℕ → Checked (Unit {0})
-log-run s = inOrder (logChecks s)
+log-run s = inOrder (log-checks s)
 
 -- The refusals that are left aside are those of check 1 and 2, and of check 5.
 layout-numbers : (s : List ℕ) {n p : ℕ} → FirstFault (layoutChecks s) n p → LeftAside n
@@ -34,7 +37,7 @@ unfolding layoutChecks
 layout-numbers s (here f) = inl (sym (f .0))
 layout-numbers s (later h (here f)) = inr (inl (sym (f .0)))
 
-log-numbers : (s : List ℕ) {n p : ℕ} → FirstFault (logChecks s) n p → LeftAside n
+log-numbers : (s : List ℕ) {n p : ℕ} → FirstFault (log-checks s) n p → LeftAside n
 unfolding logChecks
 log-numbers s (here f) = inr (inr (omega (arith, f .0)))
 
@@ -60,13 +63,13 @@ module _ {A : Type 0} (rest : List ℕ → Checked A) (same-rest : (s t : List �
         go (accepts x) e = layout-parted (all-hold (layoutChecks s) e)
         go (refuses n p) e = absurd (w n p (rw e) (layout-numbers s (first-fault (layoutChecks s) n p e)))
 
-    rows-fine : (x : Unit {0}) → book-run s ≡ accepts x → AllHold (logChecks s)
+    rows-fine : (x : Unit {0}) → book-run s ≡ accepts x → AllHold (log-checks s)
     unfolding _>>_
     rows-fine x b = go (log-run s) refl
       where
-        go : (r : Checked (Unit {0})) → log-run s ≡ r → AllHold (logChecks s)
-        go (accepts y) e = all-hold (logChecks s) e
-        go (refuses n p) e = absurd (w n p (from-book s parted ∙ rw (b, e)) (log-numbers s (first-fault (logChecks s) n p e)))
+        go : (r : Checked (Unit {0})) → log-run s ≡ r → AllHold (log-checks s)
+        go (accepts y) e = all-hold (log-checks s) e
+        go (refuses n p) e = absurd (w n p (from-book s parted ∙ rw (b, e)) (log-numbers s (first-fault (log-checks s) n p e)))
 
   -- Alike files that checks 1 and 2 let pass run alike, if check 5 says the same of both where it is reached.
   from-log :
@@ -82,7 +85,7 @@ module _ {A : Type 0} (rest : List ℕ → Checked A) (same-rest : (s t : List �
       let g = parted t wt in
       let e = same s t f g a in
       from-log s t f g a
-      (λ x b. hold-all (logChecks s) (rows-fine s ws x b) ∙ sym (hold-all (logChecks t) (rows-fine t wt x (rw (← e .book) b))))
+      (λ x b. hold-all (log-checks s) (rows-fine s ws x b) ∙ sym (hold-all (log-checks t) (rows-fine t wt x (rw (← e .book) b))))
 
   -- The struck file runs alike, unless check 5 refuses at a row that striking out mends.
   abbrev pub AsStruck : List ℕ → Type 0
@@ -94,6 +97,12 @@ module _ {A : Type 0} (rest : List ℕ → Checked A) (same-rest : (s t : List �
 
     trees : formulas s ≡ formulas (strike s)
     trees = same s (strike s) f (parted-struck s f) (alike-struck s f) .trees
+
+    struck-good : AllHold (log-checks s) → AllHold (log-checks (strike s))
+    struck-good h = rw (log-struck s f, ← trees) (log-stays-good (logOf s) (agentOf s) (formulas s) h)
+
+    struck-bad : (n p : ℕ) → FirstFault (log-checks s) n p → FirstFault (log-checks (strike s)) n p ⊎ ((n ≡ 5) × Mended s p)
+    struck-bad n p h = rw (log-struck s f, ← trees) (log-stays-bad (logOf s) (agentOf s) (formulas s) n p h)
 
     at-mended : (n p : ℕ) → log-run s ≡ refuses n p → n ≡ 5 → Mended s p → AsStruck s
     unfolding _>>_
@@ -107,10 +116,10 @@ module _ {A : Type 0} (rest : List ℕ → Checked A) (same-rest : (s t : List �
     parted-runs = go (log-run s) refl
       where
         go : (r : Checked (Unit {0})) → log-run s ≡ r → AsStruck s
-        go (accepts y) e = inl (struck-agrees (λ x b. hold-all (logChecks s) (all-hold (logChecks s) e) ∙ sym (hold-all (logChecks (strike s)) (log-stays-good s f trees (all-hold (logChecks s) e)))))
+        go (accepts y) e = inl (struck-agrees (λ x b. hold-all (log-checks s) (all-hold (log-checks s) e) ∙ sym (hold-all (log-checks (strike s)) (struck-good (all-hold (log-checks s) e)))))
         go (refuses n p) e =
-            ⊎-elim (λ g. inl (struck-agrees (λ x b. e ∙ sym (fault-first g)))) (λ m. at-mended n p e (m .0) (m .1, m .2))
-            (log-stays-bad s f trees n p (first-fault (logChecks s) n p e))
+            ⊎-elim (λ g. inl (struck-agrees (λ x b. e ∙ sym (fault-first g)))) (λ m. at-mended n p e (m .0) (m .1))
+            (struck-bad n p (first-fault (log-checks s) n p e))
 
   pub struck-runs : (s : List ℕ) → AsStruck s
   struck-runs s = ⊎-elim (λ e. inl (ap whole (sym e))) (λ f. parted-runs s f) (struck-or-parted s)
@@ -134,31 +143,32 @@ unfolding finding allChecks admission
 all-checks s room = rw (in-order-append (admissionChecks s) (caseChecks (caseOf s) room), in-groups s) (simp then-assoc)
 
 -- A refusal by 1, 2 or 5 would be the outcome's.
-made : (s room : List ℕ) → WellMade s room → Made (ends (length room)) (same-ends (length room)) s
+made : (s room : List ℕ) → (checking .isAside (record { file = s; room = room }) → ⊥) → Made (ends (length room)) (same-ends (length room)) s
 unfolding outcome report
-made s room w n p e = w n p (rw (all-checks s (length room) ∙ e))
+made s room w n p e aside = w (n, p, rw (all-checks s (length room) ∙ e), aside)
+
+made-file : (s : List ℕ) → (admitting .isAside s → ⊥) → Made records same-records s
+made-file s w n p e aside = w (n, p, in-groups s ∙ e, aside)
 
 pub unseen-rows-are-unseen : UnseenRowsAreUnseen
 unfolding outcome
-unseen-rows-are-unseen s t room a ws wt =
-    let runs = alike-runs (ends (length room)) (same-ends (length room)) s t a (made s room ws) (made t room wt) in
-    ap (λ x. report x room) (all-checks s (length room) ∙ runs ∙ sym (all-checks t (length room)))
+unseen-rows-are-unseen = (
+  λ i j a ws wt.
+      let room = i .room in
+      let runs = alike-runs (ends (length room)) (same-ends (length room)) (i .file) (j .file) (a .0) (made (i .file) room ws) (made (j .file) room (rw (a .1) wt)) in
+      ap (λ x. report x room) (all-checks (i .file) (length room) ∙ runs ∙ sym (all-checks (j .file) (length room))) ∙ ap (outcome (j .file)) (a .1),
+  λ s t a ws wt. in-groups s ∙ alike-runs records same-records s t a (made-file s ws) (made-file t wt) ∙ sym (in-groups t),
+)
 
 pub as-if-struck : AsIfStruck
 unfolding outcome report
-as-if-struck s room =
-    ⊎-elim
-    (λ e. inl (ap (λ x. report x room) (all-checks s (length room) ∙ e ∙ sym (all-checks (strike s) (length room)))))
-    (λ m. inr (m .0, rw (all-checks s (length room) ∙ m .1), m .2))
-    (struck-runs (ends (length room)) (same-ends (length room)) s)
-
--- The same of an admission.
-made-file : (s : List ℕ) → WellMadeFile s → Made records same-records s
-made-file s w n p e = w n p (in-groups s ∙ e)
-
-pub alike-admission : (s t : List ℕ) → Alike s t → WellMadeFile s → WellMadeFile t → admission s ≡ admission t
-alike-admission s t a ws wt = in-groups s ∙ alike-runs records same-records s t a (made-file s ws) (made-file t wt) ∙ sym (in-groups t)
-
-pub struck-admission : (s : List ℕ) → (admission s ≡ admission (strike s)) ⊎ ((p : ℕ) × (admission s ≡ refuses 5 p) × Mended s p)
-struck-admission s =
-    ⊎-elim (λ e. inl (in-groups s ∙ e ∙ sym (in-groups (strike s)))) (λ m. inr (m .0, in-groups s ∙ m .1, m .2)) (struck-runs records same-records s)
+as-if-struck = (
+  λ i.
+      let s = i .file in
+      let room = i .room in
+      ⊎-elim
+      (λ e. inl (ap (λ x. report x room) (all-checks s (length room) ∙ e ∙ sym (all-checks (strike s) (length room)))))
+      (λ m. inr (m .0, rw (all-checks s (length room) ∙ m .1), m .2))
+      (struck-runs (ends (length room)) (same-ends (length room)) s),
+  λ s. ⊎-elim (λ e. inl (in-groups s ∙ e ∙ sym (in-groups (strike s)))) (λ m. inr (m .0, in-groups s ∙ m .1, m .2)) (struck-runs records same-records s),
+)

@@ -87,13 +87,16 @@ count s p = size s p / recordBytes p
 unfoldable pub part : List ℕ → ℕ → List ℕ
 part s p = take (size s p) (drop (offset s p) s)
 
--- The number of records that the part really has: in a file that check 2 lets pass, its count.
-unfoldable pub held : List ℕ → ℕ → ℕ
-held s p = length (part s p) / recordBytes p
+-- Of the bytes b of a part p: how many records they are, and the number at byte i of record k.
+unfoldable pub recordsIn : List ℕ → (p : ℕ) → ℕ
+recordsIn b p = length b / recordBytes p
 
--- The number at byte i of record k of part p.
+unfoldable pub fieldIn : List ℕ → (p k i : ℕ) → ℕ
+fieldIn b p k i = word b (recordBytes p * k + i)
+
+-- The same number of a file's part.
 unfoldable pub field : List ℕ → (p k i : ℕ) → ℕ
-field s p k i = word (part s p) (recordBytes p * k + i)
+field s p k i = fieldIn (part s p) p k i
 
 -- "The first offset is 36, each next one is where the last part ended, the last part ends the file."
 unfoldable pub dueOffset : List ℕ → ℕ → ℕ
@@ -133,5 +136,5 @@ layoutChecks s =
 
 -- What an evaluation unfolds of this file.
 unfoldable pub evaluatedLayout : Unit {0}
-unfolding recordBytes mostRecords fullParts agentOf actionOf offset size end count part held field dueOffset badLength orphans isMisplaced faultyPart layoutChecks
+unfolding recordBytes mostRecords fullParts agentOf actionOf offset size end count part recordsIn fieldIn field dueOffset badLength orphans isMisplaced faultyPart layoutChecks
 evaluatedLayout = tt

@@ -6,7 +6,7 @@ use lib.Dec.{eqb, ltb, leb}
 use Rattle.definition.specs.01-Words.{absent}
 use Rattle.definition.specs.02-Ranges.{any}
 use Rattle.definition.specs.04-Checks.{Check, single, each}
-use Rattle.definition.specs.11-Layout.{log-part, observer-part, condition-part, obligation-part, label-part, step-part, premise-part, formula-part, part, field, count, agentOf, actionOf}
+use Rattle.definition.specs.11-Layout.{log-part, observer-part, condition-part, obligation-part, label-part, step-part, premise-part, formula-part, part, recordsIn, fieldIn, field, count, agentOf, actionOf}
 use Rattle.definition.specs.12-Terms.{agents, classOf, isObject}
 use Rattle.definition.specs.13-Formulas.{Formula, each-use, once, isPolicy, isAction, isPredicate, closed, ground}
 use Rattle.definition.specs.14-Book.{treeIn, book}
@@ -15,18 +15,34 @@ use Rattle.definition.specs.14-Book.{treeIn, book}
 unfoldable pub formulas : List ℕ → List Formula
 formulas s = book (part s formula-part)
 
+-- A log: the bytes of its rows, and those of its observers. All that is said of a log row is said of these, and the file tells where they lie.
+pub record Log : Type 0 where
+  pub rows : List ℕ
+  pub observers : List ℕ
+
+unfoldable pub logOf : List ℕ → Log
+logOf s = record { rows = part s log-part; observers = part s observer-part }
+
+-- How many rows and observer entries a log has.
+unfoldable pub rowsIn : Log → ℕ
+rowsIn g = recordsIn (g .rows) log-part
+
+unfoldable pub observersIn : Log → ℕ
+observersIn g = recordsIn (g .observers) observer-part
+
 -- "Log row: ground action, observer offset and count in entries."
-unfoldable pub rowAction : List ℕ → ℕ → ℕ
-rowAction s k = field s log-part k 0
+unfoldable pub rowAction : Log → ℕ → ℕ
+rowAction g k = fieldIn (g .rows) log-part k 0
 
-unfoldable pub rowFrom : List ℕ → ℕ → ℕ
-rowFrom s k = field s log-part k 2
+unfoldable pub rowFrom : Log → ℕ → ℕ
+rowFrom g k = fieldIn (g .rows) log-part k 2
 
-unfoldable pub rowCount : List ℕ → ℕ → ℕ
-rowCount s k = field s log-part k 4
+unfoldable pub rowCount : Log → ℕ → ℕ
+rowCount g k = fieldIn (g .rows) log-part k 4
 
+-- Entry j of the bytes b of a log's observers.
 unfoldable pub observer : List ℕ → ℕ → ℕ
-observer s j = field s observer-part j 0
+observer b j = fieldIn b observer-part j 0
 
 unfoldable pub conditionFormula : List ℕ → ℕ → ℕ
 conditionFormula s k = field s condition-part k 0
@@ -83,20 +99,20 @@ isDuty m = eqb m each-use || eqb m once
 
 -- Entry j of a list that begins at entry `from` is at fault if it is no agent, or not above the entry before it.
 unfoldable pub badObserver : List ℕ → (from j : ℕ) → Bool
-badObserver s from j =
-    not (isObject agents (classOf (observer s j)))
-    || (not (eqb j from) && leb (observer s j) (observer s (j - 1)))
+badObserver b from j =
+    not (isObject agents (classOf (observer b j)))
+    || (not (eqb j from) && leb (observer b j) (observer b (j - 1)))
 
 -- The action of a row is at fault if it is neither absent nor a ground action. "A row's action may be absent: struck out."
 unfoldable pub badAction : List Formula → ℕ → Bool
 badAction l a = not (eqb a absent || isGroundAction (treeIn l a))
 
 -- Check 5: "bad log row", place: row. The action; the spans adjoin and cover; "each list strictly ascending agents".
-unfoldable pub badLogRow : List ℕ → List Formula → ℕ → Bool
-badLogRow s l k =
-    badAction l (rowAction s k)
-    || badSpan (rowFrom s) (rowCount s) (count s log-part) (count s observer-part) k
-    || any (badObserver s (rowFrom s k)) (rowCount s k) (rowFrom s k)
+unfoldable pub badLogRow : Log → List Formula → ℕ → Bool
+badLogRow g l k =
+    badAction l (rowAction g k)
+    || badSpan (rowFrom g) (rowCount g) (rowsIn g) (observersIn g) k
+    || any (badObserver (g .observers) (rowFrom g k)) (rowCount g k) (rowFrom g k)
 
 -- Check 6: "bad condition", place: entry. "A ground predicate, or absent when no reading was certified."
 unfoldable pub badCondition : List ℕ → List Formula → ℕ → Bool
@@ -119,8 +135,8 @@ unfoldable pub badAudit : List ℕ → List Formula → Bool
 badAudit s l = not (isObject agents (classOf (agentOf s)) && isGroundAction (treeIn l (actionOf s)))
 
 -- Check 5.
-unfoldable pub logChecks : List ℕ → List Check
-logChecks s = each 5 (count s log-part) (badLogRow s (formulas s)) ∷ []
+unfoldable pub logChecks : Log → List Formula → List Check
+logChecks g l = each 5 (rowsIn g) (badLogRow g l) ∷ []
 
 -- Checks 6 to 9.
 unfoldable pub recordChecks : List ℕ → List Check
@@ -134,5 +150,5 @@ recordChecks s =
 
 -- What an evaluation unfolds of this file.
 unfoldable pub evaluatedRecords : Unit {0}
-unfolding formulas rowAction rowFrom rowCount observer conditionFormula obligationMark obligationAction labelMark labelFormula stepRule stepFormula stepArgument stepFrom stepCount premiseStep spanDue spanFault badSpan isGroundAction isDuty badObserver badAction badLogRow badCondition badObligation badLabel badAudit logChecks recordChecks
+unfolding formulas logOf rowsIn observersIn rowAction rowFrom rowCount observer conditionFormula obligationMark obligationAction labelMark labelFormula stepRule stepFormula stepArgument stepFrom stepCount premiseStep spanDue spanFault badSpan isGroundAction isDuty badObserver badAction badLogRow badCondition badObligation badLabel badAudit logChecks recordChecks
 evaluatedRecords = tt

@@ -5,10 +5,10 @@ use mathlib.Core.Option.{Option, none, some}
 use mathlib.Core.List.{List}
 use lib.Dec.{eqb}
 use Rattle.definition.specs.01-Words.{absent}
-use Rattle.definition.specs.11-Layout.{log-part, condition-part, obligation-part, label-part, step-part, premise-part, count, agentOf, actionOf}
+use Rattle.definition.specs.11-Layout.{condition-part, obligation-part, label-part, step-part, premise-part, count, agentOf, actionOf}
 use Rattle.definition.specs.13-Formulas.{Formula}
 use Rattle.definition.specs.14-Book.{treeIn}
-use Rattle.definition.specs.15-Records.{formulas, conditionFormula, obligationMark, obligationAction, labelMark, labelFormula, stepRule, stepFormula, stepArgument, stepFrom, stepCount, premiseStep}
+use Rattle.definition.specs.15-Records.{logOf, rowsIn, formulas, conditionFormula, obligationMark, obligationAction, labelMark, labelFormula, stepRule, stepFormula, stepArgument, stepFrom, stepCount, premiseStep}
 use Rattle.definition.specs.16-Views.{RowView, rowView}
 
 -- An obligation or a label: a mark and a formula.
@@ -49,8 +49,8 @@ caseOf s =
     record {
       agent = agentOf s;
       action = treeIn l (actionOf s);
-      rows = count s log-part;
-      row = rowView s l;
+      rows = rowsIn (logOf s);
+      row = rowView (logOf s) (agentOf s) l;
       conditions = count s condition-part;
       condition = λ k. reading l (conditionFormula s k);
       obligations = count s obligation-part;

@@ -6,10 +6,15 @@ use mathlib.Core.List.{List, _++_}
 use Rattle.definition.specs.04-Checks.{Check, Checked, inOrder}
 use Rattle.definition.specs.11-Layout.{formula-part, part, badLength, faultyPart, layoutChecks}
 use Rattle.definition.specs.14-Book.{bookChecks}
-use Rattle.definition.specs.15-Records.{logChecks, recordChecks}
+use Rattle.definition.specs.15-Records.{logOf, formulas, logChecks, recordChecks}
 
+-- Checks 1 to 5: the layout, the formulas, the log.
+unfoldable pub checksToLog : List ℕ → List Check
+checksToLog s = layoutChecks s ++ bookChecks (part s formula-part) ++ logChecks (logOf s) (formulas s)
+
+-- Checks 1 to 9.
 unfoldable pub admissionChecks : List ℕ → List Check
-admissionChecks s = layoutChecks s ++ bookChecks (part s formula-part) ++ logChecks s ++ recordChecks s
+admissionChecks s = checksToLog s ++ recordChecks s
 
 unfoldable pub admission : List ℕ → Checked (Unit {0})
 admission s = inOrder (admissionChecks s)
@@ -21,5 +26,5 @@ pub record Parted (s : List ℕ) : Type 0 where
 
 -- What an evaluation unfolds of this file.
 unfoldable pub evaluatedAdmission : Unit {0}
-unfolding admissionChecks admission
+unfolding checksToLog admissionChecks admission
 evaluatedAdmission = tt

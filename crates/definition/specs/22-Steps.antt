@@ -17,15 +17,33 @@ use Rattle.definition.specs.21-Rules.{Rule, Names, nothing, a-label, a-c
 abbrev pub Labels : Type 0
 Labels = ℕ → Bool
 
--- What the steps so far have done: the labels each leaves open, the steps used as premises, the log rows cited, the obligations discharged.
+-- What a step leaves behind: the labels that it leaves open, and whether a later step has it as a premise.
+pub record Left : Type 0 where
+  pub opens : Labels
+  pub used : Bool
+
+-- What the steps so far have done: what each leaves behind, the log rows cited, the obligations discharged.
 pub record State : Type 0 where
-  pub opens : ℕ → Labels
-  pub used : ℕ → Bool
+  pub left : ℕ → Left
   pub cited : ℕ → Bool
   pub discharged : ℕ → Bool
 
+-- The labels that step k leaves open, and whether it is used.
+abbrev pub opensIn : State → ℕ → Labels
+opensIn s k = s .left k .opens
+
+abbrev pub usedIn : State → ℕ → Bool
+usedIn s k = s .left k .used
+
+-- What the steps leave behind, with other labels left open, and with other steps used.
+abbrev pub withOpens : (ℕ → Left) → (ℕ → Labels) → ℕ → Left
+withOpens left opens j = record { opens = opens j; used = left j .used }
+
+abbrev pub withUsed : (ℕ → Left) → (ℕ → Bool) → ℕ → Left
+withUsed left used j = record { opens = left j .opens; used = used j }
+
 unfoldable pub startState : State
-startState = record { opens = λ k l. false; used = λ k. false; cited = λ k. false; discharged = λ k. false }
+startState = record { left = λ k. record { opens = λ l. false; used = false }; cited = λ k. false; discharged = λ k. false }
 
 unfoldable pub ruleOf : Case → ℕ → Rule
 ruleOf c k = ruleAt (c .step k .rule)
@@ -135,8 +153,8 @@ isAdding closes = false
 unfoldable pub usedTwice : Case → State → Rule → ℕ → List ℕ → Bool
 usedTwice c s r a ps =
     (isAnObligation (r .names) && eqb (c .obligation a .mark) each-use && s .discharged a)
-    || share c (s .opens) ps
-    || (isAdding (r .effect) && isEachUse c a && joined (s .opens) ps a)
+    || share c (opensIn s) ps
+    || (isAdding (r .effect) && isEachUse c a && joined (opensIn s) ps a)
 
 -- Check 18: "rule does not fit otherwise".
 unfoldable pub misfit : Case → ℕ → Bool
@@ -150,7 +168,7 @@ misfit c k =
 unfoldable pub notFresh : Case → State → ℕ → Bool
 notFresh c s k =
     let a = c .step k .argument in
-    let above = joined (s .opens) (premisesOf c k) in
+    let above = joined (opensIn s) (premisesOf c k) in
     eqb (c .step k .rule) 14
     && (has (this-term a) 0 (c .step k .formula)
     || any (λ l. above l && has (this-term a) 0 (c .label l .formula)) (c .labels) 0)
@@ -176,8 +194,7 @@ next c k s =
     let a = c .step k .argument in
     let ps = premisesOf c k in
     record {
-      opens = update (s .opens) k (leaves (r .effect) a (joined (s .opens) ps));
-      used = markAll (s .used) ps;
+      left = withOpens (withUsed (s .left) (markAll (usedIn s) ps)) (update (opensIn s) k (leaves (r .effect) a (joined (opensIn s) ps)));
       cited = markIf (isARow (r .names)) (s .cited) a;
       discharged = markIf (isAnObligation (r .names)) (s .discharged) a;
     }
@@ -199,7 +216,7 @@ fitChecks c k = single 18 k (misfit c k) ∷ []
 unfoldable pub shapeChecks : Case → ℕ → State → List Check
 shapeChecks c k s =
     single 12 k (misshapen c k)
-    ∷ single 13 k (badPremises (s .used) k (premisesOf c k))
+    ∷ single 13 k (badPremises (usedIn s) k (premisesOf c k))
     ∷ citationChecks c (ruleOf c k .names) (c .step k .argument) k
 
 -- Checks 17 to 19 of step k: it uses what it rests on as its rule allows.

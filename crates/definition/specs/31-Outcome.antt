@@ -11,7 +11,7 @@ use Rattle.definition.specs.13-Formulas.{Formula}
 use Rattle.definition.specs.17-Case.{Case, caseOf}
 use Rattle.definition.specs.18-Admission.{admissionChecks}
 use Rattle.definition.specs.21-Rules.{isThat, owed}
-use Rattle.definition.specs.22-Steps.{State, startState, checksOfSteps, stateAt}
+use Rattle.definition.specs.22-Steps.{State, opensIn, usedIn, startState, checksOfSteps, stateAt}
 
 -- "Passed (count of obligations, count of rows; ..)", "None owed", "Refused (number, place)".
 pub data Verdict : Type 0 where
@@ -51,11 +51,11 @@ lastStep c = c .steps - 1
 
 -- Check 20: "a step before the last is no premise", place: the lowest.
 unfoldable pub unusedStep : State → ℕ → Bool
-unusedStep s k = not (s .used k)
+unusedStep s k = not (usedIn s k)
 
 -- Check 21: "label open at the end", place: the lowest label.
 unfoldable pub openLabel : Case → State → ℕ → Bool
-openLabel c s l = s .opens (lastStep c) l
+openLabel c s l = opensIn s (lastStep c) l
 
 -- Check 22: "last formula not what is owed", place: last step.
 unfoldable pub wrongEnd : Case → Bool
@@ -79,14 +79,21 @@ shortRoom c s room = ltb room (needed c s)
 unfoldable pub owingChecks : Case → List Check
 owingChecks c = single 10 0 (noProof c) ∷ single 11 0 (needlessProof c) ∷ []
 
--- Checks 20 to 23, of the state that the steps have left.
-unfoldable pub endChecks : Case → State → (room : ℕ) → List Check
-endChecks c s room =
+-- Checks 20 to 22, of the state that the steps have left.
+unfoldable pub closingChecks : Case → State → List Check
+closingChecks c s =
     each 20 (lastStep c) (unusedStep s)
     ∷ each 21 (c .labels) (openLabel c s)
     ∷ single 22 (lastStep c) (wrongEnd c)
-    ∷ single 23 (needed c s) (shortRoom c s room)
     ∷ []
+
+-- Check 23.
+unfoldable pub roomChecks : Case → State → (room : ℕ) → List Check
+roomChecks c s room = single 23 (needed c s) (shortRoom c s room) ∷ []
+
+-- Checks 20 to 23.
+unfoldable pub endChecks : Case → State → (room : ℕ) → List Check
+endChecks c s room = closingChecks c s ++ roomChecks c s room
 
 -- The state that all steps leave.
 unfoldable pub finalState : Case → State
@@ -134,5 +141,5 @@ outcome s room = report (finding s (length room)) room
 
 -- What an evaluation unfolds of this file.
 unfoldable pub evaluatedOutcome : Unit {0}
-unfolding owes isOwed hasSteps noProof needlessProof lastStep unusedStep openLabel wrongEnd dischargedList citedList needed shortRoom owingChecks endChecks finalState proofChecks checksIfOwed caseChecks allChecks foundIfOwed found finding report outcome
+unfolding owes isOwed hasSteps noProof needlessProof lastStep unusedStep openLabel wrongEnd dischargedList citedList needed shortRoom owingChecks closingChecks roomChecks endChecks finalState proofChecks checksIfOwed caseChecks allChecks foundIfOwed found finding report outcome
 evaluatedOutcome = tt

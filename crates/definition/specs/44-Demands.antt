@@ -7,16 +7,17 @@ use mathlib.Core.List.{List, _++_}
 use lib.ListN.{length, getD, drop}
 use Rattle.definition.specs.01-Words.{absent}
 use Rattle.definition.specs.03-Lists.{Among, Ascending}
-use Rattle.definition.specs.04-Checks.{AllHold, FirstFault, accepts, refuses}
-use Rattle.definition.specs.11-Layout.{log-part, recordBytes, offset, count}
+use Rattle.definition.specs.04-Checks.{AllHold, FirstFault, Checked, accepts, refuses}
+use Rattle.definition.specs.11-Layout.{headerBytes, log-part, recordBytes, offset}
 use Rattle.definition.specs.13-Formulas.{Formula, each-use}
 use Rattle.definition.specs.14-Book.{book, bookRows, treeIn, badFormula, repeatsLower}
-use Rattle.definition.specs.15-Records.{rowAction, badAction, formulas}
-use Rattle.definition.specs.16-Views.{isSeen, strike}
+use Rattle.definition.specs.15-Records.{logOf, rowsIn, rowAction, badAction, formulas}
+use Rattle.definition.specs.16-Views.{isSeen}
 use Rattle.definition.specs.17-Case.{Case, caseOf}
 use Rattle.definition.specs.18-Admission.{Parted, admissionChecks, admission}
+use Rattle.definition.specs.19-Rewriting.{strike}
 use Rattle.definition.specs.22-Steps.{State, stepChecks, stateAt}
-use Rattle.definition.specs.31-Outcome.{owingChecks, endChecks, finalState, allChecks, passed, none-owed, refused, outcome}
+use Rattle.definition.specs.31-Outcome.{owingChecks, endChecks, finalState, allChecks, passed, none-owed, refused, Outcome, outcome}
 use Rattle.definition.specs.42-Account.{Owes, Account}
 use Rattle.definition.specs.43-Alike.{Alike}
 
@@ -125,40 +126,83 @@ EachUseOnce =
 -- Demand 3: a log row that the agent does not see does not show through in the verdict, the place, the counts or the room, not even by which refusal comes;
 -- the answer is the one for the log with every unseen row struck out.
 
+-- An entry point, as the definition has it: what it answers to all that it is lent, every lent buffer included; when two inputs are alike to the agent; which inputs are left aside;
+-- the input with every unseen row struck out; and which inputs that mends.
+pub record Entry (Input Answer : Type 0) : Type 1 where
+  pub answer : Input → Answer
+  pub isAlike : Input → Input → Type 0
+  pub isAside : Input → Type 0
+  pub strikeOut : Input → Input
+  pub isMended : Input → Type 0
+
+-- The hidden-row rule: two inputs that are alike to the agent have the same answer, unless one of them is left aside.
+abbrev pub HidesRows : {I A : Type 0} → Entry I A → Type 0
+HidesRows {I} e = (i j : I) → e .isAlike i j → (e .isAside i → ⊥) → (e .isAside j → ⊥) → e .answer i ≡ e .answer j
+
+-- The answer to every input is the one for the input with every unseen row struck out, unless that mends it.
+abbrev pub AnswersStruck : {I A : Type 0} → Entry I A → Type 0
+AnswersStruck {I} e = (i : I) → (e .answer i ≡ e .answer (e .strikeOut i)) ⊎ e .isMended i
+
 -- What is left aside: refusals by 1, 2 and 5. These checks look at the file as it is made, unseen rows included.
 abbrev pub LeftAside : (number : ℕ) → Type 0
 LeftAside n = (n ≡ 1) ⊎ ((n ≡ 2) ⊎ (n ≡ 5))
 
--- The file is not refused by one of these.
-abbrev pub WellMade : List ℕ → List ℕ → Type 0
-WellMade s room = (n p : ℕ) → outcome s room .verdict ≡ refused n p → LeftAside n → ⊥
-
--- The same, of the file by itself.
-abbrev pub WellMadeFile : List ℕ → Type 0
-WellMadeFile s = (n p : ℕ) → admission s ≡ refuses n p → LeftAside n → ⊥
-
--- Two files that are alike to the agent have the same outcome, verdict, number, place, counts and every entry of the room, unless 1, 2 or 5 refuses one of them.
-abbrev pub UnseenRowsAreUnseen : Type 0
-UnseenRowsAreUnseen = (s t room : List ℕ) → Alike s t → WellMade s room → WellMade t room → outcome s room ≡ outcome t room
+-- One of these checks refuses; `refusal n p` says that check n does, at p.
+abbrev pub RefusedAside : (refusal : (number place : ℕ) → Type 0) → Type 0
+RefusedAside refusal = (n : ℕ) × (p : ℕ) × refusal n p × LeftAside n
 
 -- Row p is unseen, and its action is at fault: striking it out mends the row.
 abbrev pub Mended : List ℕ → (row : ℕ) → Type 0
-Mended s p = (isSeen s p ≡ false) × (badAction (formulas s) (rowAction s p) ≡ true)
+Mended s p = (isSeen s p ≡ false) × (badAction (formulas s) (rowAction (logOf s) p) ≡ true)
 
--- The outcome of every file is that of the file with every unseen row struck out, but for one: check 5 refuses it at an unseen row whose action is at fault.
+-- A case file, and the room for the answer.
+pub record FileAndRoom : Type 0 where
+  pub file : List ℕ
+  pub room : List ℕ
+
+-- The check of a file: verdict, number, place, counts and every entry of the room. Refusals by 1, 2 and 5 are left aside, and one at an unseen row whose action is at fault is mended.
+abbrev pub checking : Entry FileAndRoom Outcome
+checking =
+    record {
+      answer = λ i. outcome (i .file) (i .room);
+      isAlike = λ i j. Alike (i .file) (j .file) × (i .room ≡ j .room);
+      isAside = λ i. RefusedAside (λ n p. outcome (i .file) (i .room) .verdict ≡ refused n p);
+      strikeOut = λ i. record { file = strike (i .file); room = i .room };
+      isMended = λ i. (p : ℕ) × (outcome (i .file) (i .room) .verdict ≡ refused 5 p) × Mended (i .file) p;
+    }
+
+-- The admission of a file, checks 1 to 9.
+abbrev pub admitting : Entry (List ℕ) (Checked (Unit {0}))
+admitting =
+    record {
+      answer = admission;
+      isAlike = Alike;
+      isAside = λ s. RefusedAside (λ n p. admission s ≡ refuses n p);
+      strikeOut = strike;
+      isMended = λ s. (p : ℕ) × (admission s ≡ refuses 5 p) × Mended s p;
+    }
+
+abbrev pub UnseenRowsAreUnseen : Type 0
+UnseenRowsAreUnseen = HidesRows checking × HidesRows admitting
+
 abbrev pub AsIfStruck : Type 0
-AsIfStruck = (s room : List ℕ) → (outcome s room ≡ outcome (strike s) room) ⊎ ((p : ℕ) × (outcome s room .verdict ≡ refused 5 p) × Mended s p)
+AsIfStruck = AnswersStruck checking × AnswersStruck admitting
 
 -- "Striking out a row makes its action absent and changes no other byte." Byte i is not of the action of an unseen row.
 abbrev pub NoUnseenAction : List ℕ → (byte : ℕ) → Type 0
-NoUnseenAction s i = (k : ℕ) → k < count s log-part → isSeen s k ≡ false → (i ≡ offset s log-part + recordBytes log-part * k) ⊎ (i ≡ offset s log-part + recordBytes log-part * k + 1) → ⊥
+NoUnseenAction s i = (k : ℕ) → k < rowsIn (logOf s) → isSeen s k ≡ false → (i ≡ offset s log-part + recordBytes log-part * k) ⊎ (i ≡ offset s log-part + recordBytes log-part * k + 1) → ⊥
 
+-- The header is made of bytes.
+abbrev pub HeaderOfBytes : List ℕ → Type 0
+HeaderOfBytes s = (i : ℕ) → i < headerBytes → getD s i 0 < 256
+
+-- That a byte of the header stays is said of such a header.
 abbrev pub StrikesUnseen : Type 0
 StrikesUnseen =
     (s : List ℕ) → Parted s →
     (length (strike s) ≡ length s)
-    × ((k : ℕ) → k < count s log-part → isSeen s k ≡ false → rowAction (strike s) k ≡ absent)
-    × ((i : ℕ) → NoUnseenAction s i → getD (strike s) i 0 ≡ getD s i 0)
+    × ((k : ℕ) → k < rowsIn (logOf s) → isSeen s k ≡ false → rowAction (logOf (strike s)) k ≡ absent)
+    × ((i : ℕ) → NoUnseenAction s i → (headerBytes ≤ i) ⊎ HeaderOfBytes s → getD (strike s) i 0 ≡ getD s i 0)
 
 -- Beside the demands, what lets the code compare numbers. "No row repeats another, so one meaning has one number": in a book that checks 3 and 4 let pass, equal trees have equal numbers.
 abbrev pub OneMeaningOneNumber : Type 0

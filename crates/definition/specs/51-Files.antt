@@ -1,14 +1,9 @@
 -- Case files written by name, for the desk cases and the examples. Nothing in the definition uses this file.
-use Prim.Native.Nat.{ℕ, _+_, _/_, _%_}
-use mathlib.Core.List.{List, [], _∷_, _++_}
-use lib.ListN.{length}
-use Rattle.definition.specs.01-Words.{absent}
+use Prim.Native.Nat.{ℕ, _+_}
+use mathlib.Core.List.{List, [], _∷_}
+use Rattle.definition.specs.01-Words.{words, absent}
 use Rattle.definition.specs.03-Lists.{joinAll}
-
--- Numbers of 16 bits as bytes, the low byte first.
-unfoldable pub words : List ℕ → List ℕ
-words [] = []
-words (n ∷ ns) = n % 256 ∷ n / 256 ∷ words ns
+use Rattle.definition.specs.19-Rewriting.{laidOut}
 
 -- The rows of the formula part.
 unfoldable pub formulaRow : (kind code x y z : ℕ) → List ℕ
@@ -46,15 +41,6 @@ userActionRow c x y z = formulaRow 10 c x y z
 unfoldable pub step : (rule formula argument start len : ℕ) → List ℕ
 step r f a start len = r ∷ f ∷ a ∷ start ∷ len ∷ []
 
--- The header's pairs of offset and length, for parts that begin at `at`.
-unfoldable pub pairs : ℕ → List (List ℕ) → List ℕ
-pairs at [] = []
-pairs at (p ∷ ps) = at ∷ length p ∷ pairs (at + length p) ps
-
--- A file of a header and these eight parts' bytes.
-unfoldable pub laidOut : (agent action : ℕ) → List (List ℕ) → List ℕ
-laidOut agent action parts = words (agent ∷ action ∷ pairs 36 parts) ++ joinAll parts
-
 -- A file of formula rows, and the numbers of the other parts.
 pub record FileParts : Type 0 where
   pub agent : ℕ
@@ -83,5 +69,5 @@ fileOf w =
 
 -- What an evaluation unfolds of this file.
 unfoldable pub evaluatedFiles : Unit {0}
-unfolding words formulaRow predicateRow ownsRow saysRow andRow impliesRow afterRow communicatesRow createsRow userActionRow step pairs laidOut fileOf
+unfolding formulaRow predicateRow ownsRow saysRow andRow impliesRow afterRow communicatesRow createsRow userActionRow step fileOf
 evaluatedFiles = tt

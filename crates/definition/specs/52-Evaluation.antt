@@ -15,11 +15,12 @@ use Rattle.definition.specs.15-Records.{evaluatedRecords}
 use Rattle.definition.specs.16-Views.{evaluatedViews}
 use Rattle.definition.specs.17-Case.{evaluatedCase}
 use Rattle.definition.specs.18-Admission.{evaluatedAdmission}
+use Rattle.definition.specs.19-Rewriting.{evaluatedRewriting}
 use Rattle.definition.specs.21-Rules.{evaluatedRules}
 use Rattle.definition.specs.22-Steps.{evaluatedSteps}
 use Rattle.definition.specs.31-Outcome.{Outcome, outcome, evaluatedOutcome}
 use Rattle.definition.specs.51-Files.{evaluatedFiles}
 
 unfoldable pub evaluated : List ℕ → List ℕ → Outcome
-unfolding decide ℕ-discrete evaluatedWords evaluatedRanges evaluatedLists evaluatedChecks evaluatedLayout evaluatedTerms evaluatedFormulas evaluatedBook evaluatedRecords evaluatedViews evaluatedCase evaluatedAdmission evaluatedRules evaluatedSteps evaluatedOutcome evaluatedFiles
+unfolding decide ℕ-discrete evaluatedWords evaluatedRanges evaluatedLists evaluatedChecks evaluatedLayout evaluatedTerms evaluatedFormulas evaluatedBook evaluatedRecords evaluatedViews evaluatedCase evaluatedAdmission evaluatedRewriting evaluatedRules evaluatedSteps evaluatedOutcome evaluatedFiles
 evaluated s room = outcome s room

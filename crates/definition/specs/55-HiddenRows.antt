@@ -6,13 +6,18 @@ use mathlib.Core.Logic.{_⊎_, inl, inr}
 use mathlib.Core.Path.{_≡_, refl}
 use native.Mathlib.Omega.{arith}
 use lib.ListN.{length, take}
-use Rattle.definition.specs.01-Words.{absent}
-use Rattle.definition.specs.16-Views.{strike}
+use Rattle.definition.specs.01-Words.{words, absent}
+use Rattle.definition.specs.15-Records.{logOf}
+use Rattle.definition.specs.19-Rewriting.{laidOut, strike}
 use Rattle.definition.specs.31-Outcome.{passed, refused, outcome}
 use Rattle.definition.specs.43-Alike.{RowAlike, Alike}
-use Rattle.definition.specs.44-Demands.{LeftAside, WellMade, Mended}
-use Rattle.definition.specs.51-Files.{words, laidOut, fileOf, formulaRow, predicateRow, ownsRow, saysRow, communicatesRow, createsRow}
+use Rattle.definition.specs.44-Demands.{LeftAside, Mended, checking}
+use Rattle.definition.specs.51-Files.{fileOf, formulaRow, predicateRow, ownsRow, saysRow, communicatesRow, createsRow}
 use Rattle.definition.specs.53-Desk.{DeskCase, computed, expected, lent, unchanged, writes, seenBy, ownerStep, built}
+
+-- The file is checked in this room without a refusal by 1, 2 or 5.
+abbrev pub WellMade : (s room : List ℕ) → Type 0
+WellMade s room = checking .isAside (record { file = s; room = room }) → ⊥
 
 -- Grant with a second row, which agent 0 does not see: its action and observers are given, and the row that the seen step cites.
 -- Formula 5, which nothing uses, is creates(creator, 16384), with a code, which is to be 0.
@@ -39,7 +44,7 @@ oneWayIn code creator action cited = twoRows code creator action (1 ∷ []) cite
 abbrev pub otherWayIn : (code creator action cited : ℕ) → List ℕ
 otherWayIn code creator action cited = twoRows code creator action (1 ∷ 2 ∷ []) cited
 
-pub rows-alike : (code creator a b c k : ℕ) → k < 2 → RowAlike (oneWayIn code creator a c) (otherWayIn code creator b c) k
+pub rows-alike : (code creator a b c k : ℕ) → k < 2 → RowAlike 0 (logOf (oneWayIn code creator a c)) (logOf (otherWayIn code creator b c)) k
 unfolding built twoRows
 rows-alike code creator a b c zero h = inl (refl, refl, refl)
 rows-alike code creator a b c (suc zero) h = inr (refl, refl)
@@ -58,8 +63,7 @@ ways-alike code creator a b c =
       labels = refl;
       steps = refl;
       premises = refl;
-      rows = refl;
-      row = rows-alike code creator a b c;
+      log = record { rows = refl; row = rows-alike code creator a b c };
     }
 
 -- With a good formula 5.
@@ -95,10 +99,10 @@ not-aside n from (inl lt) (inr (inr i)) = omega arith
 not-aside n from (inr lt) (inr (inr i)) = omega arith
 
 pub made-if-refused : (s room : List ℕ) (m q : ℕ) → 2 < m → (m < 5) ⊎ (5 < m) → outcome s room .verdict ≡ refused m q → WellMade s room
-made-if-refused s room m q from other v n p e aside = let number : n ≡ m = cc in not-aside m from other (rw number at aside)
+made-if-refused s room m q from other v (n, p, e, aside) = let number : n ≡ m = cc in not-aside m from other (rw number at aside)
 
 pub made-if-passed : (s room : List ℕ) (d r : ℕ) → outcome s room .verdict ≡ passed d r → WellMade s room
-made-if-passed s room d r v n p e among = let z : _≡_ {A = ℕ} 0 1 = cc in omega arith
+made-if-passed s room d r v (n, p, e, among) = let z : _≡_ {A = ℕ} 0 1 = cc in omega arith
 
 pub ways-made : WellMade (oneWay 0 1) lent × WellMade (otherWay 4 1) lent × WellMade (oneWay 0 0) lent × WellMade (otherWay 4 0) lent
 unfolding built twoRows
@@ -168,8 +172,7 @@ one-shows-through =
         labels = refl;
         steps = refl;
         premises = refl;
-        rows = refl;
-        row = λ k lt. absurd (omega arith);
+        log = record { rows = refl; row = λ k lt. absurd (omega arith) };
       };
       refused-by = refl;
       other-made = made-if-refused emptyParts lent 9 0 (omega arith) (inr (omega arith)) refl;
@@ -180,7 +183,7 @@ one-shows-through =
 unfoldable pub observerBytes : List ℕ → List ℕ
 observerBytes bytes = laidOut 0 0 ([] ∷ words (absent ∷ 0 ∷ 0 ∷ []) ∷ bytes ∷ [] ∷ [] ∷ [] ∷ [] ∷ [] ∷ [])
 
-pub unnamed-alike : (k : ℕ) → k < 1 → RowAlike (observerBytes (7 ∷ [])) (observerBytes []) k
+pub unnamed-alike : (k : ℕ) → k < 1 → RowAlike 0 (logOf (observerBytes (7 ∷ []))) (logOf (observerBytes [])) k
 unfolding built observerBytes
 unnamed-alike zero h = inr (refl, refl)
 unnamed-alike (suc k) h = absurd (omega arith)
@@ -201,8 +204,7 @@ two-shows-through =
         labels = refl;
         steps = refl;
         premises = refl;
-        rows = refl;
-        row = unnamed-alike;
+        log = record { rows = refl; row = unnamed-alike };
       };
       refused-by = refl;
       other-made = made-if-refused (observerBytes []) lent 9 0 (omega arith) (inr (omega arith)) refl;

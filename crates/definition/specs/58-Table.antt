@@ -3,15 +3,16 @@ use Prim.Native.Nat.{ℕ, _+_}
 use mathlib.Core.List.{List, [], _∷_, _++_, map}
 use mathlib.Core.Path.{_≡_, refl}
 use lib.ListN.{length, take, drop, replicate}
-use Rattle.definition.specs.01-Words.{absent}
+use Rattle.definition.specs.01-Words.{words, absent}
 use Rattle.definition.specs.03-Lists.{joinAll}
 use Rattle.definition.specs.04-Checks.{numberOf}
 use Rattle.definition.specs.12-Terms.{agents, data-objects, object, parameter, variable, absent-term, no-term, classOf}
 use Rattle.definition.specs.17-Case.{Case}
 use Rattle.definition.specs.18-Admission.{admissionChecks}
+use Rattle.definition.specs.19-Rewriting.{laidOut}
 use Rattle.definition.specs.22-Steps.{State, stepChecks}
 use Rattle.definition.specs.31-Outcome.{passed, refused, owingChecks, endChecks}
-use Rattle.definition.specs.51-Files.{words, laidOut, fileOf, formulaRow, predicateRow, ownsRow, saysRow, andRow, impliesRow, communicatesRow, createsRow, userActionRow, step}
+use Rattle.definition.specs.51-Files.{fileOf, formulaRow, predicateRow, ownsRow, saysRow, andRow, impliesRow, communicatesRow, createsRow, userActionRow, step}
 use Rattle.definition.specs.53-Desk.{DeskCase, computed, expected, unchanged, writes, grantWith, seenBy, ownerStep, grant, built}
 
 -- Grant with one byte changed, with other steps, and with further records.

@@ -11,6 +11,7 @@ pub mod 15-Records
 pub mod 16-Views
 pub mod 17-Case
 pub mod 18-Admission
+pub mod 19-Rewriting
 pub mod 21-Rules
 pub mod 22-Steps
 pub mod 31-Outcome

@@ -26,51 +26,40 @@ pub use Rattle.formula_book.proofs.RowComparison.{Proper, other-kind, p
 pub use Rattle.formula_walks.proofs.WalkLaws.{bound-present, free-present, parameter-present, data-variable-present, term-present}
 pub use Rattle.formula_book.proofs.WalkedRows.{policy-here, action-here, good-inside}
 
--- The laws of an admitted book of n rows.
-module _ (s : List ℕ) (n : ℕ) (is : AdmittedBook s n) where
+-- The laws of an admitted book.
+module _ (s : List ℕ) (is : AdmittedBook s) where
   passed : AllHold (single 2 formula-part (isMisshapen s) ∷ bookChecks s)
   unfolding bookAdmission
   passed = all-hold (single 2 formula-part (isMisshapen s) ∷ bookChecks s) (is .passes)
 
-  pub admitted-count : bookRows s ≡ n
-  admitted-count = is .count
-
-  pub admitted-few : n ≤ 1024
+  pub admitted-few : bookRows s ≤ 1024
   unfolding isMisshapen mostRecords
-  admitted-few = omega (arith, ltb-false 1024 (bookRows s) (or-false (not (eqb (length s % rowBytes) 0)) (ltb 1024 (bookRows s)) (passed .0) .1), admitted-count)
+  admitted-few = ltb-false 1024 (bookRows s) (or-false (not (eqb (length s % rowBytes) 0)) (ltb 1024 (bookRows s)) (passed .0) .1)
 
-  pub admitted-good : (k : ℕ) → k < n → badFormula s (book s) k ≡ false
+  pub admitted-good : (k : ℕ) → k < bookRows s → badFormula s (book s) k ≡ false
   unfolding bookChecks
-  admitted-good k below = by-number 3 (bookChecks s) (passed .1) .0 k (omega (arith, admitted-count))
+  admitted-good = by-number 3 (bookChecks s) (passed .1) .0
 
-  pub admitted-once : (k : ℕ) → k < n → repeatsLower s k ≡ false
+  pub admitted-once : (k : ℕ) → k < bookRows s → repeatsLower s k ≡ false
   unfolding bookChecks
-  admitted-once k below = by-number 4 (bookChecks s) (passed .1) .0 k (omega (arith, admitted-count))
+  admitted-once = by-number 4 (bookChecks s) (passed .1) .0
 
-  pub admitted-row : (row : ℕ) → row < n → GoodRow s row
-  admitted-row row below =
-      record {
-        good = λ j le. admitted-good j (omega arith);
-        inside = omega (arith, admitted-count);
-        few = omega (arith, admitted-few);
-      }
+  pub admitted-row : (row : ℕ) → row < bookRows s → GoodRow s row
+  admitted-row row below = record { good = λ j le. admitted-good j (omega arith); inside = below; few = omega (arith, admitted-few) }
 
   -- Equal trees have equal numbers.
-  pub admitted-one-number : (j k : ℕ) → j < n → k < n → treeIn (book s) j ≡ treeIn (book s) k → j ≡ k
-  admitted-one-number j k j-in k-in =
-      one-number s (λ i below. admitted-good i (omega (arith, admitted-count))) (λ i below. admitted-once i (omega (arith, admitted-count))) j k
-      (omega (arith, admitted-count)) (omega (arith, admitted-count))
+  pub admitted-one-number : (j k : ℕ) → j < bookRows s → k < bookRows s → treeIn (book s) j ≡ treeIn (book s) k → j ≡ k
+  admitted-one-number = one-number s admitted-good admitted-once
 
   -- A formula is another just if their numbers are equal, and the one of a row just if it has that row.
-  pub number-same : (f g : ℕ) → f < n → g < n → same (treeIn (book s) f) (treeIn (book s) g) ≡ eqb f g
+  pub number-same : (f g : ℕ) → f < bookRows s → g < bookRows s → same (treeIn (book s) f) (treeIn (book s) g) ≡ eqb f g
   number-same f g f-in g-in =
       one-answer (same (treeIn (book s) f) (treeIn (book s) g)) (same-is (treeIn (book s) f) (treeIn (book s) g))
       (λ e. ap (treeIn (book s)) (eqb-true f g e), λ e. eq-eqb f g (admitted-one-number f g f-in g-in e))
 
-  pub row-same : (f : ℕ) (r : Row) → f < n → Proper (book s) n r → same (treeIn (book s) f) (treeOf (book s) r) ≡ sameRow (rowAt s f) r
+  pub row-same : (f : ℕ) (r : Row) → f < bookRows s → Proper (book s) (bookRows s) r → same (treeIn (book s) f) (treeOf (book s) r) ≡ sameRow (rowAt s f) r
   row-same f r f-in =
-      same-as-row (row-shape s f (admitted-good f f-in) (omega (arith, admitted-count)))
-      (λ i j i-low j-low. admitted-one-number i j (omega arith) j-low)
+      same-as-row (row-shape s f (admitted-good f f-in) f-in) (λ i j i-low j-low. admitted-one-number i j (omega arith) j-low)
 
 -- The laws of a row that may be asked about.
 module _ (s : List ℕ) (row : ℕ) (g : GoodRow s row) where
@@ -94,14 +83,14 @@ module _ (s : List ℕ) (row : ℕ) (g : GoodRow s row) where
   row-predicate = shape-predicate (row-is s row g)
 
 -- A number beyond the book names no formula.
-pub beyond : (s : List ℕ) (n k : ℕ) → AdmittedBook s n → n ≤ k → treeIn (book s) k ≡ no-formula
+pub beyond : (s : List ℕ) (k : ℕ) → bookRows s ≤ k → treeIn (book s) k ≡ no-formula
 unfolding book treeIn
-beyond s n k is le = List·getD-eq-default (trees s (bookRows s)) no-formula (omega (arith, trees-length s (bookRows s), admitted-count s n is))
+beyond s k le = List·getD-eq-default (trees s (bookRows s)) no-formula (omega (arith, trees-length s (bookRows s)))
 
 -- So a number whose tree passes a test that no-formula fails is one of the book.
-pub number-inside : (s : List ℕ) (n k : ℕ) (is : Formula → Bool) → AdmittedBook s n → is no-formula ≡ false → is (treeIn (book s) k) ≡ true → k < n
-number-inside s n k is a none here =
-    let within : n ≤ k → ⊥ = λ le. not-both here (ap is (beyond s n k a le) ∙ none) in
+pub number-inside : (s : List ℕ) (k : ℕ) (is : Formula → Bool) → is no-formula ≡ false → is (treeIn (book s) k) ≡ true → k < bookRows s
+number-inside s k is none here =
+    let within : bookRows s ≤ k → ⊥ = λ le. not-both here (ap is (beyond s k le) ∙ none) in
     omega (arith, within)
 
 -- The agents are the numbers below 16,384.

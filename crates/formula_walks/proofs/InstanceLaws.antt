@@ -1,30 +1,25 @@
--- What an instance walk learns of two rows from their common node: the children that it may go on to, and whether the one formula is the other with a term put in. By the eleven shapes of a row that is not bad.
+-- What an instance walk learns of two rows from their common node: whether the one formula is the other with a term put in. By the eleven shapes of a row that is not bad.
 -- Assumes nothing.
-use Prim.Native.Nat.{ℕ, _+_, _≤_, _<_}
+use Prim.Native.Nat.{ℕ, _+_}
 use mathlib.Core.Path.{_≡_, refl, sym, ap, _∙_}
 use mathlib.Core.Bool.{Bool, true, false, _&&_}
 use mathlib.Core.Logic.{_↔_}
 use mathlib.Core.List.{List}
-use native.Mathlib.Omega.{arith}
 use lib.Dec.{eqb}
 use lib.ListN.{List·getD-map}
 use borrow.Author.Tests.{eqb-true, eq-eqb}
 use Rattle.definition.specs.01-Words.{absent}
 use Rattle.definition.proofs.Tests.{and-true, and-intro, and-is, one-answer, never-true, not-both}
 use Rattle.definition.specs.12-Terms.{Sort, isBound}
-use Rattle.definition.specs.13-Formulas.{Formula, predicate, owns, says, and, for-all, implies, after, communicates, creates, user-action, no-formula, same, put, putTerm, isPolicy, isAction}
-use Rattle.definition.specs.14-Book.{Row, rowAt, sortOfCode, treeIn, treeOf, book}
+use Rattle.definition.specs.13-Formulas.{Formula, predicate, owns, says, and, for-all, implies, after, communicates, creates, user-action, no-formula, same, put, putTerm}
+use Rattle.definition.specs.14-Book.{Row, sortOfCode, treeIn, treeOf}
 use Rattle.formula_rows.specs.Nodes.{Node, leaf, said, pair, body, duty, no-node, nodeOf, nodeTable}
-use Rattle.formula_walks.specs.WalkRows.{WalkRow}
 use Rattle.formula_walks.specs.CommonNode.{commonNode}
-use Rattle.formula_rows.specs.Meanings.{rowMeant, nodeMeant}
-use Rattle.formula_rows.specs.declared.rows.Row as rows
-use Rattle.formula_rows.specs.declared.nodes.Node as nodes
 use Rattle.formula_rows.proofs.Classes.{of-absent}
 use Rattle.definition.proofs.TreeEquality.{same-is, same-true}
-use Rattle.definition.proofs.Trees.{Below, Shape, predicate-row, owns-row, says-row, and-row, for-all-row, implies-row, each-use-row, once-row, communicates-row, creates-row, user-action-row, row-shape}
+use Rattle.definition.proofs.Trees.{Shape, predicate-row, owns-row, says-row, and-row, for-all-row, implies-row, each-use-row, once-row, communicates-row, creates-row, user-action-row}
 use Rattle.definition.proofs.OneNumber.{fieldsOf, fields}
-use Rattle.formula_walks.proofs.WalkLaws.{Children, children, InAction, IsNode, in-action, go-on, said-child, pair-first, pair-second, body-child, duty-first, duty-second}
+use Rattle.formula_walks.proofs.WalkLaws.{IsNode}
 
 -- Trees with the same head are equal where their parts are.
 
@@ -112,7 +107,7 @@ absent-both : (σ : Sort) (t d n m : ℕ) → n ≡ absent → m ≡ absent → 
 absent-both σ t d n m e f = rw (e, f) (sym (put-absent σ t d))
 
 -- A node of the same kind, with the fields of r.
-like : Row → Node → Node
+unfoldable pub like : Row → Node → Node
 like r (leaf x y z) = leaf (r .x) (r .y) (r .z)
 like r (said x y z) = said (r .x) (r .y) (r .z)
 like r (pair x y) = pair (r .x) (r .y)
@@ -120,7 +115,7 @@ like r (body x) = body (r .x)
 like r (duty x y) = duty (r .x) (r .y)
 like r no-node = no-node
 
-like-node : (q r : Row) → q .kind ≡ r .kind → nodeOf r ≡ like r (nodeOf q)
+pub like-node : (q r : Row) → q .kind ≡ r .kind → nodeOf r ≡ like r (nodeOf q)
 unfolding nodeOf nodeTable like
 like-node q r e = rw e (List·getD-map (like r) (nodeTable q) (r .kind) no-node)
 
@@ -160,7 +155,7 @@ module _ (σ : Sort) (t d : ℕ) {l : List Formula} {j k : ℕ} {q r : Row} wher
       (cc (ap (λ u. fieldsOf u .kind) e), cc (ap (λ u. fieldsOf u .code) e))
 
   -- both: one kind and code, and then what the node says
-  shape-instance : Shape l j q → Shape l k r → same (treeIn l k) (put σ t d (treeIn l j)) ≡ instNode σ t d l r (commonNode q r)
+  pub shape-instance : Shape l j q → Shape l k r → same (treeIn l k) (put σ t d (treeIn l j)) ≡ instNode σ t d l r (commonNode q r)
   unfolding commonNode instNode
   shape-instance g h = go (eqb (q .kind) (r .kind) && eqb (q .code) (r .code)) refl
     where
@@ -175,95 +170,10 @@ module _ (σ : Sort) (t d : ℕ) {l : List Formula} {j k : ℕ} {q r : Row} wher
           not-both (and-intro (eq-eqb (q .kind) (r .kind) (p .0)) (eq-eqb (q .code) (r .code) (p .1))) e))
 
 -- Where there is a common node, it is that of the first row, and the second has its kind.
-common : (q r : Row) {n : Node} → commonNode q r ≡ n → IsNode n → (nodeOf q ≡ n) × (q .kind ≡ r .kind)
+pub common : (q r : Row) {n : Node} → commonNode q r ≡ n → IsNode n → (nodeOf q ≡ n) × (q .kind ≡ r .kind)
 unfolding commonNode
 common q r {n} e is = go (eqb (q .kind) (r .kind) && eqb (q .code) (r .code)) refl
   where
     go : (b : Bool) → eqb (q .kind) (r .kind) && eqb (q .code) (r .code) ≡ b → (nodeOf q ≡ n) × (q .kind ≡ r .kind)
     go true h = (rw h at e, eqb-true (q .kind) (r .kind) (and-true (eqb (q .kind) (r .kind)) (eqb (q .code) (r .code)) h .0))
     go false h = let z : no-node ≡ n = rw h at e in absurd (rw (← z) at is)
-
--- An arm of the walk: the two rows that it is at, the second as it was read, and their common node.
-pub record Arm (is : Formula → Bool) (s : List ℕ) (from row depth : ℕ) (r : rows.Row) (n : Node) : Type 0 where
-  pub first : WalkRow is s from depth
-  pub second : WalkRow is s row depth
-  pub other : rowMeant r ≡ rowAt s row
-  pub node : commonNode (rowAt s from) (rowAt s row) ≡ n
-
--- An arm, from what the code has read.
-pub in-arm :
-    {is : Formula → Bool} {s : List ℕ} {from row depth : ℕ} → WalkRow is s from depth → WalkRow is s row depth →
-    (q r : rows.Row) {n m : nodes.Node} → rowMeant q ≡ rowAt s from → rowMeant r ≡ rowAt s row →
-    nodeMeant n ≡ commonNode (rowMeant q) (rowMeant r) → n ≡ m → Arm is s from row depth r (nodeMeant m)
-in-arm g h q r {n} {m} e f c p = record { first = g; second = h; other = f; node = rw (← e, ← f) (sym c ∙ ap nodeMeant p) }
-
-module _ {is : Formula → Bool} {s : List ℕ} {from row depth : ℕ} {r : rows.Row} {n : Node} (a : Arm is s from row depth r n) where
-  pub answer : (σ : Sort) (u : ℕ) → same (treeIn (book s) row) (put σ u depth (treeIn (book s) from)) ≡ instNode σ u depth (book s) (rowMeant r) n
-  answer σ u =
-      let g = a .first in
-      let h = a .second in
-      rw (a .other, ← a .node)
-      (shape-instance σ u depth (row-shape s from (g .good from (omega arith)) (g .inside)) (row-shape s row (h .good row (omega arith)) (h .inside)))
-
-  first-children : IsNode n → Children (book s) from n
-  first-children i = children (a .first) (common (rowAt s from) (rowAt s row) (a .node) i .0)
-
-  second-children : IsNode n → Children (book s) row (like (rowMeant r) n)
-  second-children i =
-      let c = common (rowAt s from) (rowAt s row) (a .node) i in
-      rw (a .other) (children (a .second) (like-node (rowAt s from) (rowAt s row) (c .1) ∙ ap (like (rowAt s row)) (c .0)))
-
-  -- the walk may go on to both children, and the first row falls
-  both :
-      {js : Formula → Bool} {x y : ℕ} (d : ℕ) → d ≤ depth + 1 → Below js (book s) from x → Below js (book s) row y →
-      (x < from) × (WalkRow js s x d × WalkRow js s y d)
-  both d le b c = (b .lower, (go-on (a .first) d le b, go-on (a .second) d le c))
-
--- An action has no other node than a leaf or what is communicated.
-pub arm-of-action : {s : List ℕ} {from row depth : ℕ} {r : rows.Row} {n : Node} → Arm isAction s from row depth r n → IsNode n → InAction n
-arm-of-action {s = s} {from = from} {row = row} a i = in-action (a .first) (a .first .kind) (common (rowAt s from) (rowAt s row) (a .node) i .0)
-
--- The children of both, one by one.
-module _ {is : Formula → Bool} {s : List ℕ} {from row depth : ℕ} {r : rows.Row} where
-  pub said-both : {x y z : ℕ} → Arm is s from row depth r (said x y z) → (y < from) × (WalkRow isPolicy s y depth × WalkRow isPolicy s (r .y) depth)
-  unfolding like rowMeant
-  said-both a = both a depth (omega arith) (said-child (first-children a tt)) (said-child (second-children a tt))
-
-  pub first-both : {x y : ℕ} → Arm is s from row depth r (pair x y) → (x < from) × (WalkRow isPolicy s x depth × WalkRow isPolicy s (r .x) depth)
-  unfolding like rowMeant
-  first-both a = both a depth (omega arith) (pair-first (first-children a tt)) (pair-first (second-children a tt))
-
-  pub second-both : {x y : ℕ} → Arm is s from row depth r (pair x y) → (y < from) × (WalkRow isPolicy s y depth × WalkRow isPolicy s (r .y) depth)
-  unfolding like rowMeant
-  second-both a = both a depth (omega arith) (pair-second (first-children a tt)) (pair-second (second-children a tt))
-
-  pub action-both : {x y : ℕ} → Arm is s from row depth r (duty x y) → (x < from) × (WalkRow isAction s x depth × WalkRow isAction s (r .x) depth)
-  unfolding like rowMeant
-  action-both a = both a depth (omega arith) (duty-first (first-children a tt)) (duty-first (second-children a tt))
-
-  pub policy-both : {x y : ℕ} → Arm is s from row depth r (duty x y) → (y < from) × (WalkRow isPolicy s y depth × WalkRow isPolicy s (r .y) depth)
-  unfolding like rowMeant
-  policy-both a = both a depth (omega arith) (duty-second (first-children a tt)) (duty-second (second-children a tt))
-
-  pub body-both : {x : ℕ} → Arm is s from row depth r (body x) → (x < from) × (WalkRow isPolicy s x (depth + 1) × WalkRow isPolicy s (r .x) (depth + 1))
-  unfolding like rowMeant
-  body-both a = both a (depth + 1) (omega arith) (body-child (first-children a tt)) (body-child (second-children a tt))
-
--- A walk that began at `body` and `row`, under `depth` for-alls, and has come to `from` and `to`, under `under`: its answer there is that of the whole.
-pub record Ahead (σ : Sort) (u : ℕ) (s : List ℕ) (body row depth from to under : ℕ) : Type 0 where
-  pub lower : from ≤ body
-  pub first : WalkRow isPolicy s from under
-  pub second : WalkRow isPolicy s to under
-  pub whole : same (treeIn (book s) to) (put σ u under (treeIn (book s) from)) ≡ same (treeIn (book s) row) (put σ u depth (treeIn (book s) body))
-
-pub ahead-all :
-    {σ : Sort} {u : ℕ} {s : List ℕ} {body row depth : ℕ} → WalkRow isPolicy s body depth × WalkRow isPolicy s row depth →
-    Ahead σ u s body row depth body row depth
-ahead-all g = record { lower = omega arith; first = g .0; second = g .1; whole = refl }
-
-pub ahead-more :
-    {σ : Sort} {u : ℕ} {s : List ℕ} {body row depth from to under x y d : ℕ} → Ahead σ u s body row depth from to under →
-    (x < from) × (WalkRow isPolicy s x d × WalkRow isPolicy s y d) →
-    same (treeIn (book s) y) (put σ u d (treeIn (book s) x)) ≡ same (treeIn (book s) to) (put σ u under (treeIn (book s) from)) →
-    Ahead σ u s body row depth x y d
-ahead-more a b e = record { lower = omega (arith, a .lower, b .0); first = b .1 .0; second = b .1 .1; whole = e ∙ a .whole }

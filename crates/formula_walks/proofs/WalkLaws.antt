@@ -1,21 +1,23 @@
--- What a walk learns of a row from its node: the children that it may go on to, and what it finds in the row. By the eleven shapes of a row that is not bad.
+-- What a walk learns of a row from its node: the children that it may go on to. By the eleven shapes of a row that is not bad.
 -- Assumes nothing.
 use Prim.Native.Nat.{ℕ, _+_, _≤_, _<_}
 use mathlib.Core.Path.{_≡_, refl, sym, ap, _∙_}
-use mathlib.Core.Bool.{Bool, true, false, _||_, or-false}
+use mathlib.Core.Bool.{Bool, true}
+use mathlib.Core.Logic.{_⊎_, inl, inr, ⊎-elim}
 use mathlib.Core.List.{List}
 use native.Mathlib.Omega.{arith}
 use Rattle.definition.proofs.Tests.{not-both}
 use borrow.Author.Tests.{ne-eqb}
 use Rattle.definition.specs.01-Words.{absent}
 use Rattle.definition.specs.12-Terms.{Sort, classOf, isParameter, isVariable, isFree, isBound}
-use Rattle.definition.specs.13-Formulas.{Formula, isPolicy, isAction, nodes, Sought, this-term, any-parameter, data-variable, free-variable, bound-variable, isSought, has}
+use Rattle.definition.specs.13-Formulas.{Formula, isPolicy, isAction, this-term, any-parameter, data-variable, free-variable, bound-variable, isSought}
 use Rattle.definition.specs.14-Book.{Row, rowAt, treeIn, book}
 use Rattle.formula_rows.specs.Nodes.{Node, leaf, said, pair, body, duty, no-node, nodeOf, nodeTable}
 use Rattle.formula_walks.specs.WalkRows.{WalkRow, Present}
 use Rattle.formula_rows.specs.Meanings.{rowMeant, nodeMeant}
 use Rattle.formula_rows.specs.declared.rows.Row as rows
 use Rattle.formula_rows.specs.declared.nodes.Node as nodes
+use Rattle.formula_rows.specs.declared.nodes.Node.the-variants as node
 use Rattle.definition.proofs.Trees.{Below, Shape, predicate-row, owns-row, says-row, and-row, for-all-row, implies-row, each-use-row, once-row, communicates-row, creates-row, user-action-row, row-shape}
 
 -- the children of a node
@@ -49,61 +51,23 @@ InAction (body x) = ⊥
 InAction (duty x y) = ⊥
 InAction no-node = ⊥
 
-shape-action : {l : List Formula} {k : ℕ} {r : Row} → Shape l k r → isAction (treeIn l k) ≡ true → InAction (nodeOf r)
+shape-action : {l : List Formula} {k : ℕ} {r : Row} → Shape l k r → isAction (treeIn l k) ≡ true → (nodeOf r ≡ leaf (r .x) (r .y) (r .z)) ⊎ (r .kind ≡ 8)
 unfolding nodeOf nodeTable isAction
-shape-action (predicate-row e f t) a = rw e tt
-shape-action (owns-row e f t) a = rw e tt
-shape-action (says-row e f t) a = rw e tt
+shape-action (predicate-row e f t) a = inl (rw e)
+shape-action (owns-row e f t) a = inl (rw e)
+shape-action (says-row e f t) a = absurd (not-both a (rw t))
 shape-action (and-row e f t) a = absurd (not-both a (rw t))
 shape-action (for-all-row e f t) a = absurd (not-both a (rw t))
 shape-action (implies-row e f t) a = absurd (not-both a (rw t))
 shape-action (each-use-row e f t) a = absurd (not-both a (rw t))
 shape-action (once-row e f t) a = absurd (not-both a (rw t))
-shape-action (communicates-row e f t) a = rw e tt
-shape-action (creates-row e f t) a = rw e tt
-shape-action (user-action-row e f g t) a = rw e tt
-
--- which of the two it is, by its kind
-action-leaf : {l : List Formula} {k : ℕ} {r : Row} → Shape l k r → isAction (treeIn l k) ≡ true → (r .kind ≡ 8 → ⊥) → nodeOf r ≡ leaf (r .x) (r .y) (r .z)
-unfolding nodeOf nodeTable isAction
-action-leaf (predicate-row e f t) a other = rw e
-action-leaf (owns-row e f t) a other = rw e
-action-leaf (says-row e f t) a other = absurd (not-both a (rw t))
-action-leaf (and-row e f t) a other = absurd (not-both a (rw t))
-action-leaf (for-all-row e f t) a other = absurd (not-both a (rw t))
-action-leaf (implies-row e f t) a other = absurd (not-both a (rw t))
-action-leaf (each-use-row e f t) a other = absurd (not-both a (rw t))
-action-leaf (once-row e f t) a other = absurd (not-both a (rw t))
-action-leaf (communicates-row e f t) a other = absurd (other e)
-action-leaf (creates-row e f t) a other = rw e
-action-leaf (user-action-row e f g t) a other = rw e
+shape-action (communicates-row e f t) a = inr e
+shape-action (creates-row e f t) a = inl (rw e)
+shape-action (user-action-row e f g t) a = inl (rw e)
 
 action-said : (r : Row) → r .kind ≡ 8 → nodeOf r ≡ said (r .x) (r .y) (r .z)
 unfolding nodeOf nodeTable
 action-said r e = rw e
-
--- what is found in a node
-unfoldable pub hasNode : Sought → ℕ → List Formula → Node → Bool
-hasNode w d l (leaf x y z) = isSought w d x || isSought w d y || isSought w d z
-hasNode w d l (said x y z) = isSought w d x || isSought w d z || has w d (treeIn l y)
-hasNode w d l (pair x y) = has w d (treeIn l x) || has w d (treeIn l y)
-hasNode w d l (body x) = has w (d + 1) (treeIn l x)
-hasNode w d l (duty x y) = has w d (treeIn l x) || has w d (treeIn l y)
-hasNode w d l no-node = false
-
-shape-has : {l : List Formula} {k : ℕ} {r : Row} (w : Sought) → Present w → (d : ℕ) → Shape l k r → has w d (treeIn l k) ≡ hasNode w d l (nodeOf r)
-unfolding has hasNode nodeOf nodeTable
-shape-has w p d (predicate-row e f t) = rw (t, e)
-shape-has w p d (owns-row e f t) = rw (t, e, f .rest, p d) (sym (or-false _))
-shape-has w p d (says-row e f t) = rw (t, e)
-shape-has w p d (and-row e f t) = rw (t, e)
-shape-has w p d (for-all-row e f t) = rw (t, e)
-shape-has w p d (implies-row e f t) = rw (t, e)
-shape-has w p d (each-use-row e f t) = rw (t, e)
-shape-has w p d (once-row e f t) = rw (t, e)
-shape-has w p d (communicates-row e f t) = rw (t, e)
-shape-has w p d (creates-row e f t) = rw (t, e, f .rest, p d) (sym (or-false _))
-shape-has w p d (user-action-row e f g t) = rw (t, e)
 
 -- what may be looked for is not the absent term
 pub bound-present : (σ : Sort) → Present (bound-variable σ)
@@ -128,26 +92,23 @@ term-present u h d = ne-eqb absent u (λ e. h (sym e))
 
 -- The same of a row that a walk is at, whose node is known.
 module _ {is : Formula → Bool} {s : List ℕ} {row depth : ℕ} (g : WalkRow is s row depth) where
-  shape : Shape (book s) row (rowAt s row)
+  pub shape : Shape (book s) row (rowAt s row)
   shape = row-shape s row (g .good row (omega arith)) (g .inside)
 
   pub children : {n : Node} → nodeOf (rowAt s row) ≡ n → Children (book s) row n
   children e = rw e at (shape-children shape)
 
   pub in-action : {n : Node} → isAction (treeIn (book s) row) ≡ true → nodeOf (rowAt s row) ≡ n → InAction n
-  in-action a e = rw e at (shape-action shape a)
+  in-action a e = rw (← e) (⊎-elim (λ h. rw h tt) (λ h. rw (action-said (rowAt s row) h) tt) (shape-action shape a))
 
   -- the node of an action that the code has read
-  pub leaf-read : (q : rows.Row) → rowMeant q ≡ rowAt s row → isAction (treeIn (book s) row) ≡ true → (q .kind ≡ 8 → ⊥) → nodeOf (rowAt s row) ≡ leaf (q .x) (q .y) (q .z)
-  unfolding rowMeant
-  leaf-read q e a other = rw (← e) (action-leaf (rw (← e) at shape) a other)
+  pub leaf-read : (q : rows.Row) → rowMeant q ≡ rowAt s row → isAction (treeIn (book s) row) ≡ true → (q .kind ≡ 8 → ⊥) → nodeOf (rowAt s row) ≡ nodeMeant (node.Leaf (q .x) (q .y) (q .z))
+  unfolding rowMeant nodeMeant
+  leaf-read q e a other = rw (← e) (⊎-elim (λ h. h) (λ h. absurd (other h)) (shape-action (rw (← e) at shape) a))
 
-  pub said-read : (q : rows.Row) → rowMeant q ≡ rowAt s row → q .kind ≡ 8 → nodeOf (rowAt s row) ≡ said (q .x) (q .y) (q .z)
-  unfolding rowMeant
+  pub said-read : (q : rows.Row) → rowMeant q ≡ rowAt s row → q .kind ≡ 8 → nodeOf (rowAt s row) ≡ nodeMeant (node.Said (q .x) (q .y) (q .z))
+  unfolding rowMeant nodeMeant
   said-read q e kind = rw (← e) (action-said (rowMeant q) kind)
-
-  pub finds : (w : Sought) → Present w → {n : Node} → nodeOf (rowAt s row) ≡ n → has w depth (treeIn (book s) row) ≡ hasNode w depth (book s) n
-  finds w p e = shape-has w p depth shape ∙ ap (hasNode w depth (book s)) e
 
   -- a walk may go on to a child
   pub go-on : {js : Formula → Bool} {n : ℕ} (d : ℕ) → d ≤ depth + 1 → Below js (book s) row n → WalkRow js s n d
@@ -158,33 +119,6 @@ module _ {is : Formula → Bool} {s : List ℕ} {row depth : ℕ} (g : WalkRow i
         kind = b .fit;
         deep = omega (arith, b .lower, g .deep);
       }
-
-  -- what a walk's next call requires: the row falls, and the child may be walked
-  pub calls : {js : Formula → Bool} {n t : ℕ} {P : Type 0} (d : ℕ) → row ≡ t → d ≤ depth + 1 → Below js (book s) row n → P → (n < t) × (WalkRow js s n d × P)
-  calls d is le b p = (omega (arith, b .lower), (go-on d le b, p))
-
--- the children, one by one
-pub said-child : {l : List Formula} {k x y z : ℕ} → Children l k (said x y z) → Below isPolicy l k y
-said-child (of-said b) = b
-
-pub pair-first : {l : List Formula} {k x y : ℕ} → Children l k (pair x y) → Below isPolicy l k x
-pair-first (of-pair a b) = a
-
-pub pair-second : {l : List Formula} {k x y : ℕ} → Children l k (pair x y) → Below isPolicy l k y
-pair-second (of-pair a b) = b
-
-pub body-child : {l : List Formula} {k x : ℕ} → Children l k (body x) → Below isPolicy l k x
-body-child (of-body b) = b
-
-pub duty-first : {l : List Formula} {k x y : ℕ} → Children l k (duty x y) → Below isAction l k x
-duty-first (of-duty a b) = a
-
-pub duty-second : {l : List Formula} {k x y : ℕ} → Children l k (duty x y) → Below isPolicy l k y
-duty-second (of-duty a b) = b
-
--- the row of a call is lower than that from which its caller began
-pub called : {P : Type 0} {n row t : ℕ} → row ≤ t → (n < row) × P → (n < t) × P
-called le p = (omega (arith, p .0), p .1)
 
 -- a row that is not bad has a node
 abbrev pub IsNode : Node → Type 0
@@ -206,16 +140,61 @@ is-node (of-duty a b) = tt
 pub known-node : (s : List ℕ) (row : ℕ) (r : rows.Row) {n m : nodes.Node} → rowMeant r ≡ rowAt s row → nodeMeant n ≡ nodeOf (rowMeant r) → n ≡ m → nodeOf (rowAt s row) ≡ nodeMeant m
 known-node s row r e q p = ap nodeOf (sym e) ∙ sym q ∙ ap nodeMeant p
 
--- A walk that began at `row`, under `depth` for-alls, and has come to `place`, under `under`: what it finds there is what it finds in the whole.
-pub record Ahead (w : Sought) (s : List ℕ) (row depth place under : ℕ) : Type 0 where
-  pub lower : place ≤ row
-  pub may : WalkRow isPolicy s place under
-  pub same : has w under (treeIn (book s) place) ≡ has w depth (treeIn (book s) row)
+-- A node that ends in a policy, as the code has it: what stands before the policy, two terms or a child of some kind, and the policy's row.
+pub data Before : Type 0 where
+  terms : (x z : ℕ) → Before
+  child : (is : Formula → Bool) (x : ℕ) → Before
 
-pub ahead-all : {w : Sought} {s : List ℕ} {row depth : ℕ} → WalkRow isPolicy s row depth → Ahead w s row depth row depth
-ahead-all g = record { lower = omega arith; may = g; same = refl }
+pub data Parts : nodes.Node → Before → ℕ → Type 0 where
+  said-parts : {x y z : ℕ} → Parts (node.Said x y z) (terms x z) y
+  pair-parts : {x y : ℕ} → Parts (node.Pair x y) (child isPolicy x) y
+  duty-parts : {x y : ℕ} → Parts (node.Duty x y) (child isAction x) y
 
-pub ahead-more :
-    {w : Sought} {s : List ℕ} {row depth place under n : ℕ} (d : ℕ) → Ahead w s row depth place under → d ≤ under + 1 → Below isPolicy (book s) place n →
-    has w d (treeIn (book s) n) ≡ has w under (treeIn (book s) place) → Ahead w s row depth n d
-ahead-more d a le b e = record { lower = omega (arith, a .lower, b .lower); may = go-on (a .may) d le b; same = e ∙ a .same }
+-- its children lie below
+abbrev pub BeforeBelow : List Formula → ℕ → Before → Type 0
+BeforeBelow l k (terms x z) = Unit {0}
+BeforeBelow l k (child is x) = Below is l k x
+
+pub parts-below : {l : List Formula} {k : ℕ} {m : nodes.Node} {b : Before} {y : ℕ} → Parts m b y → Children l k (nodeMeant m) → BeforeBelow l k b × Below isPolicy l k y
+unfolding nodeMeant
+parts-below said-parts (of-said b) = (tt, b)
+parts-below pair-parts (of-pair a b) = (a, b)
+parts-below duty-parts (of-duty a b) = (a, b)
+
+pub body-below : {l : List Formula} {k x : ℕ} → Children l k (nodeMeant (node.Body x)) → Below isPolicy l k x
+unfolding nodeMeant
+body-below (of-body b) = b
+
+-- A walk that began at row t has come to `place`, under `under` for-alls, and has read its node.
+pub record Here (is : Formula → Bool) (s : List ℕ) (t place under : ℕ) (m : nodes.Node) : Type 0 where
+  pub lower : place ≤ t
+  pub may : WalkRow is s place under
+  pub node : nodeOf (rowAt s place) ≡ nodeMeant m
+
+-- it may go on to a child, whose row is lower
+module _ {is : Formula → Bool} {s : List ℕ} {t place under : ℕ} {m : nodes.Node} (h : Here is s t place under m) where
+  own : Children (book s) place (nodeMeant m)
+  own = children (h .may) (h .node)
+
+  goes-on : {js : Formula → Bool} {x : ℕ} (d : ℕ) → d ≤ under + 1 → Below js (book s) place x → (x < t) × WalkRow js s x d
+  goes-on d le b = (omega (arith, b .lower, h .lower), go-on (h .may) d le b)
+
+  pub to-first : {js : Formula → Bool} {x y : ℕ} → Parts m (child js x) y → (x < t) × WalkRow js s x under
+  to-first p = goes-on under (omega arith) (parts-below p own .0)
+
+  pub to-last : {b : Before} {y : ℕ} → Parts m b y → (y < t) × WalkRow isPolicy s y under
+  to-last p = goes-on under (omega arith) (parts-below p own .1)
+
+  pub last-lower : {b : Before} {y : ℕ} → Parts m b y → y < place
+  last-lower p = parts-below p own .1 .lower
+
+module _ {is : Formula → Bool} {s : List ℕ} {t place under : ℕ} where
+  pub to-body : {x : ℕ} → Here is s t place under (node.Body x) → (d : ℕ) → d ≤ under + 1 → (x < t) × WalkRow isPolicy s x d
+  to-body h d le = goes-on h d le (body-below (own h))
+
+  pub body-lower : {x : ℕ} → Here is s t place under (node.Body x) → x < place
+  body-lower h = body-below (own h) .lower
+
+  pub some-node : Here is s t place under node.None → ⊥
+  unfolding nodeMeant
+  some-node h = is-node (own h)

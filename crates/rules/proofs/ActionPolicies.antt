@@ -15,13 +15,14 @@ use Rattle.formula_book.proofs.Laws.{tree-row, communicates-kind, creates-kind,
 use Rattle.definition.specs.11-Layout.{agentOf, actionOf}
 use Rattle.definition.specs.17-Case.{caseOf}
 use Rattle.case_file.proofs.Laws.{audit-named}
+use Rattle.case_file.proofs.LentCaseLaws.{numbered}
 use Rattle.definition.specs.21-Rules.{conclusion, owed}
 use Rattle.definition.specs.31-Outcome.{owes}
 use Rattle.case_file.specs.LentCase.{Lent, Numbered}
 use Rattle.rules.specs.Policies.{policyMeant, Tells, PolicyIs}
 use Rattle.rules.specs.declared.policies.Policy.{Policy}
 use Rattle.rules.specs.declared.policies.Policy.the-variants.{Nothing}
-use Rattle.rules.proofs.CitedFormulas.{numbered, named}
+use Rattle.rules.proofs.CitedFormulas.{named}
 use Rattle.rules.proofs.ComparedRows.{good-row, lower, read-shape, predicate-tells, owns-tells, says-tells}
 
 -- The policy is the one of the row, if `who` is the agent: what `of_agent` promises.
@@ -56,11 +57,11 @@ module _ {b : List ℕ} {k : ℕ} (agent : ℕ) (r : rows.Row) (n : Numbered b k
 
   pub created : (p : Policy) → r .kind ≡ 9 → OfAgent p agent (r .x) (record { kind = 1; code = 0; x = r .x; y = r .y; z = absent }) → PolicyIs b p (conclusion agent (treeIn (trees b) k))
   unfolding conclusion treeOf rowMeant
-  created p e given = rw (creates-kind (read-shape r n is) e) (given b (owns-tells n (r .x) (r .y)))
+  created p e given = rw (creates-kind (read-shape r n is) e) (given b (owns-tells (r .x) (r .y)))
 
   pub acted : (p : Policy) → r .kind ≡ 10 → OfAgent p agent (r .x) (record { kind = 0; code = r .code; x = r .x; y = r .y; z = r .z }) → PolicyIs b p (owed agent (treeIn (trees b) k))
   unfolding owed treeOf rowMeant
-  acted p e given = rw (user-action-kind (read-shape r n is) e) (given b (predicate-tells n (r .code) (r .x) (r .y) (r .z)))
+  acted p e given = rw (user-action-kind (read-shape r n is) e) (given b (predicate-tells (r .code) (r .x) (r .y) (r .z)))
 
   -- The kind of the row is that of the tree.
   kind : (m : ℕ) → (r .kind ≡ m → ⊥) → fieldsOf (treeIn (trees b) k) .kind ≡ m → ⊥

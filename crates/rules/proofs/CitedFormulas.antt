@@ -11,28 +11,25 @@ use Rattle.definition.specs.01-Words.{absent}
 use Rattle.definition.specs.13-Formulas.{Formula, same, implies, after}
 use Rattle.definition.specs.14-Book.{treeIn, book as trees}
 use Rattle.formula_book.proofs.Laws.{admitted-few}
-use Rattle.definition.specs.11-Layout.{formula-part, condition-part, obligation-part, label-part, count}
+use Rattle.definition.specs.11-Layout.{condition-part, obligation-part, label-part, count}
 use Rattle.definition.specs.15-Records.{formulas, conditionFormula, obligationMark, obligationAction, labelMark, labelFormula, isDuty}
 use Rattle.definition.specs.17-Case.{reading, caseOf}
 use Rattle.case_file.proofs.Laws.{label-named, obligation-named, condition-named}
 use Rattle.definition.specs.21-Rules.{first, isThat, suppose, conditionRow, impliesIntro, dutyIntro, dutyByObligation, dutyByLabel}
 use Rattle.case_file.specs.LentCase.{Lent, Numbered}
-use Rattle.case_file.proofs.LentCaseLaws.{booked, lent-trees}
+use Rattle.case_file.proofs.LentCaseLaws.{lent-trees, numbered}
 use Rattle.rules.proofs.ComparedRows.{same-number}
 
 module _ {s b : List ℕ} (lent : Lent s b) where
-  pub numbered : {k : ℕ} → k < count s formula-part → Numbered b k
-  numbered lt = record { rows = count s formula-part; admitted = booked lent .passes; below = lt }
-
   -- A number names the same tree in the book as in the file.
   pub named : {n m : ℕ} → n ≡ m → treeIn (trees b) n ≡ treeIn (formulas s) m
   named e = cc (lent-trees lent, e)
 
   pub label-numbered : {k n : ℕ} → k < count s label-part → n ≡ labelFormula s k → Numbered b n
-  label-numbered {k} inside is = rw is (numbered (label-named s (lent .admitted) k inside))
+  label-numbered {k} inside is = rw is (numbered lent (label-named s (lent .admitted) k inside))
 
   pub obligation-numbered : {k n : ℕ} → k < count s obligation-part → n ≡ obligationAction s k → Numbered b n
-  obligation-numbered {k} inside is = rw is (numbered (obligation-named s (lent .admitted) k inside))
+  obligation-numbered {k} inside is = rw is (numbered lent (obligation-named s (lent .admitted) k inside))
 
   -- Label k, with its mark m and the number n of its formula as they were read.
   module _ {k m n : ℕ} (inside : k < count s label-part) (mark : m ≡ labelMark s k) (is : n ≡ labelFormula s k) where
@@ -79,7 +76,7 @@ module _ {s b : List ℕ} (lent : Lent s b) where
       go true e =
           let h = eqb-true (conditionFormula s k) absent e in
           let small = nf .below in
-          ne-eqb f (conditionFormula s k) (λ q. omega (arith, h, q, small, admitted-few b (nf .rows) (nf .admitted)))
+          ne-eqb f (conditionFormula s k) (λ q. omega (arith, h, q, small, admitted-few b (nf .book)))
       go false e =
-          sym (same-number nf (numbered (condition-named s (lent .admitted) k inside e)))
+          sym (same-number nf (numbered lent (condition-named s (lent .admitted) k inside e)))
           ∙ ap (same (treeIn (trees b) f)) (named refl)

@@ -1,17 +1,18 @@
 -- The rules by their numbers: how many premises each has, and what its argument names. Assumes nothing.
-use Prim.Native.Nat.{ℕ, zero, suc, _≤_, _<_}
-use mathlib.Core.Path.{_≡_, refl, ap, _∙_}
-use mathlib.Core.Bool.{false, not}
+use Prim.Native.Nat.{ℕ, _≤_, _<_}
+use mathlib.Core.Path.{_≡_, refl}
 use mathlib.Core.Logic.{_⊎_, inl, inr, ⊎-elim}
 use mathlib.Core.List.{List}
 use native.Mathlib.Omega.{arith}
-use lib.Dec.{ltb}
-use borrow.Author.Tests.{ltb-true, eq-eqb, not-false}
+use borrow.Author.Tests.{eq-eqb}
 use Rattle.definition.specs.01-Words.{absent}
+use Rattle.definition.proofs.RangeLaws.{each-at}
+use Rattle.definition.proofs.RuleLaws.{inside}
 use Rattle.definition.proofs.Tests.{not-both}
-use Rattle.definition.specs.11-Layout.{log-part, condition-part, obligation-part, label-part, count}
+use Rattle.definition.specs.11-Layout.{condition-part, obligation-part, label-part, count}
+use Rattle.definition.specs.15-Records.{logOf, rowsIn}
 use Rattle.definition.specs.17-Case.{caseOf}
-use Rattle.definition.specs.21-Rules.{Names, a-label, a-condition, a-row, an-obligation, a-term, rule, rules, ruleAt}
+use Rattle.definition.specs.21-Rules.{Names, nothing, a-label, a-condition, a-row, an-obligation, a-term, rule, rules, ruleAt}
 use Rattle.definition.specs.22-Steps.{citesAbsent, citesNothing}
 use Rattle.case_parts.specs.ShapedSteps.{CitedEntry}
 use Rattle.rules.specs.PremiseFormulas.{OneOfThree, Argued, Premised}
@@ -28,90 +29,95 @@ none-of not-first not-second not-third h = not-third (third h not-first not-seco
 pub by-label : {r : ℕ} → Argued r → (r ≡ 12 → ⊥) → (r ≡ 14 → ⊥) → (r ≡ 15 → ⊥) → OneOfThree r 9 11 13
 by-label h a b c = ⊎-elim (λ e. e) (λ e. absurd (none-of a b c e)) h
 
--- What a step cites is there.
+-- What a step cites is there, by what its argument names.
+abbrev pub EntryIn : List ℕ → Names → ℕ → Type 0
+EntryIn s nothing a = Unit {0}
+EntryIn s a-label a = a < count s label-part
+EntryIn s a-condition a = a < count s condition-part
+EntryIn s a-row a = a < rowsIn (logOf s)
+EntryIn s an-obligation a = a < count s obligation-part
+EntryIn s a-term a = a ≡ absent → ⊥
+
 module _ (s : List ℕ) (a : ℕ) where
-  inside : (m : ℕ) → not (ltb a m) ≡ false → a < m
-  inside m e = ltb-true a m (not-false (ltb a m) e)
+  pub entry-in : (n : Names) → CitedEntry (caseOf s) n a → EntryIn s n a
+  unfolding citesAbsent citesNothing caseOf
+  entry-in nothing e = tt
+  entry-in a-label e = inside a (count s label-part) (e .there)
+  entry-in a-condition e = inside a (count s condition-part) (e .there)
+  entry-in a-row e = inside a (rowsIn (logOf s)) (e .there)
+  entry-in an-obligation e = inside a (count s obligation-part) (e .there)
+  entry-in a-term e = λ q. not-both (eq-eqb a absent q) (e .present)
+
+  -- The same where what it names is known.
+  there : {n m : Names} → n ≡ m → CitedEntry (caseOf s) n a → EntryIn s m a
+  there {n} is e = rw is at (entry-in n e)
 
   pub label-there : {n : Names} → n ≡ a-label → CitedEntry (caseOf s) n a → a < count s label-part
-  unfolding citesNothing caseOf
-  label-there is e = inside (count s label-part) (rw is at (e .there))
+  label-there is e = there is e
 
   pub condition-there : {n : Names} → n ≡ a-condition → CitedEntry (caseOf s) n a → a < count s condition-part
-  unfolding citesNothing caseOf
-  condition-there is e = inside (count s condition-part) (rw is at (e .there))
+  condition-there is e = there is e
 
-  pub row-there : {n : Names} → n ≡ a-row → CitedEntry (caseOf s) n a → a < count s log-part
-  unfolding citesNothing caseOf
-  row-there is e = inside (count s log-part) (rw is at (e .there))
+  pub row-there : {n : Names} → n ≡ a-row → CitedEntry (caseOf s) n a → a < rowsIn (logOf s)
+  row-there is e = there is e
 
   pub obligation-there : {n : Names} → n ≡ an-obligation → CitedEntry (caseOf s) n a → a < count s obligation-part
-  unfolding citesNothing caseOf
-  obligation-there is e = inside (count s obligation-part) (rw is at (e .there))
+  obligation-there is e = there is e
 
   pub term-there : {n : Names} → n ≡ a-term → CitedEntry (caseOf s) n a → a ≡ absent → ⊥
-  unfolding citesAbsent
-  term-there is e q = not-both (eq-eqb a absent q) (rw is at (e .present))
+  term-there is e = there is e
+
+-- What holds of three rules.
+of-three : (P : ℕ → Type 0) {r a b c : ℕ} → P a → P b → P c → OneOfThree r a b c → P r
+of-three P x y z h = ⊎-elim (λ e. rw e x) (⊎-elim (λ e. rw e y) (λ e. rw e z)) h
 
 -- What the argument names.
-names : {r : ℕ} (m : ℕ) {n : Names} → r ≡ m → ruleAt m .names ≡ n → ruleAt r .names ≡ n
-names m e is = ap (λ q. ruleAt q .names) e ∙ is
-
 pub names-label : {r : ℕ} → OneOfThree r 9 11 13 → ruleAt r .names ≡ a-label
 unfolding rule rules ruleAt
-names-label h = ⊎-elim (λ e. names 9 e refl) (⊎-elim (λ e. names 11 e refl) (λ e. names 13 e refl)) h
+names-label h = of-three (λ q. ruleAt q .names ≡ a-label) refl refl refl h
 
 pub names-obligation : {r : ℕ} → r ≡ 12 → ruleAt r .names ≡ an-obligation
 unfolding rule rules ruleAt
-names-obligation e = names 12 e refl
+names-obligation e = rw e
 
 pub names-supposed : {r : ℕ} → r ≡ 0 → ruleAt r .names ≡ a-label
 unfolding rule rules ruleAt
-names-supposed e = names 0 e refl
+names-supposed e = rw e
 
 pub names-condition : {r : ℕ} → r ≡ 1 → ruleAt r .names ≡ a-condition
 unfolding rule rules ruleAt
-names-condition e = names 1 e refl
+names-condition e = rw e
 
 pub names-row : {r : ℕ} → r ≡ 2 → ruleAt r .names ≡ a-row
 unfolding rule rules ruleAt
-names-row e = names 2 e refl
+names-row e = rw e
 
 pub names-term : {r : ℕ} → r ≡ 14 → ruleAt r .names ≡ a-term
 unfolding rule rules ruleAt
-names-term e = names 14 e refl
+names-term e = rw e
 
 -- How many premises a rule has: m of them, where it takes no fewer and no more.
-counted : {r : ℕ} (n m len : ℕ) → r ≡ n → ruleAt n .least ≡ m → ruleAt n .most ≡ m → ruleAt r .least ≤ len → len ≤ ruleAt r .most → len ≡ m
-counted n m len e least most low high =
-    let l = ap (λ q. ruleAt q .least) e in
-    let h = ap (λ q. ruleAt q .most) e in
-    omega (arith, l, h, least, most, low, high)
+abbrev Takes : (len m r : ℕ) → Type 0
+Takes len m r = ruleAt r .least ≤ len → len ≤ ruleAt r .most → len ≡ m
+
+exactly : {len m : ℕ} → m ≤ len → len ≤ m → len ≡ m
+exactly low high = omega arith
 
 module _ {r len : ℕ} (low : ruleAt r .least ≤ len) (high : len ≤ ruleAt r .most) where
+  three : (m : ℕ) {a b c : ℕ} → Takes len m a → Takes len m b → Takes len m c → OneOfThree r a b c → len ≡ m
+  three m x y z h = of-three (Takes len m) x y z h low high
+
   pub without-premise : OneOfThree r 0 1 2 → len ≡ 0
   unfolding rule rules ruleAt
-  without-premise h =
-      ⊎-elim (λ e. counted 0 0 len e refl refl low high)
-      (⊎-elim (λ e. counted 1 0 len e refl refl low high) (λ e. counted 2 0 len e refl refl low high)) h
+  without-premise h = three 0 exactly exactly exactly h
 
   two-premises : OneOfThree r 4 6 10 → len ≡ 2
   unfolding rule rules ruleAt
-  two-premises h =
-      ⊎-elim (λ e. counted 4 2 len e refl refl low high)
-      (⊎-elim (λ e. counted 6 2 len e refl refl low high) (λ e. counted 10 2 len e refl refl low high)) h
+  two-premises h = three 2 exactly exactly exactly h
 
   one-premise : OneOfThree r 3 7 8 ⊎ Argued r → len ≡ 1
   unfolding rule rules ruleAt
-  one-premise h =
-      ⊎-elim
-      (⊎-elim (λ e. counted 3 1 len e refl refl low high)
-      (⊎-elim (λ e. counted 7 1 len e refl refl low high) (λ e. counted 8 1 len e refl refl low high)))
-      (⊎-elim
-      (⊎-elim (λ e. counted 9 1 len e refl refl low high)
-      (⊎-elim (λ e. counted 11 1 len e refl refl low high) (λ e. counted 13 1 len e refl refl low high)))
-      (⊎-elim (λ e. counted 12 1 len e refl refl low high)
-      (⊎-elim (λ e. counted 14 1 len e refl refl low high) (λ e. counted 15 1 len e refl refl low high)))) h
+  one-premise h = ⊎-elim (three 1 exactly exactly exactly) (⊎-elim (three 1 exactly exactly exactly) (three 1 exactly exactly exactly)) h
 
   pub some-premise : Premised r → 0 < len
   some-premise h = ⊎-elim (λ e. omega (arith, two-premises e)) (λ e. omega (arith, one-premise e)) h
@@ -133,22 +139,15 @@ no-argument h lt =
 pub an-argument : {r : ℕ} → OneOfThree r 3 7 8 ⊎ Argued r → 9 ≤ r → Argued r
 an-argument h le = ⊎-elim (λ e. absurd (none-of (λ q. omega (arith, q, le)) (λ q. omega (arith, q, le)) (λ q. omega (arith, q, le)) e)) (λ e. e) h
 
--- A rule that is none of 0, 1, 2 and 5 has one premise or two.
+-- A rule that is none of 0, 1, 2 and 5 has one premise or two. By the sixteen, in their order.
+abbrev OneOfSixteen : ℕ → Type 0
+OneOfSixteen r = ((r ≡ 5) ⊎ OneOfThree r 0 1 2) ⊎ Premised r
+
+one-of-sixteen : (r : ℕ) → r < 16 → OneOfSixteen r
+one-of-sixteen r lt =
+    each-at OneOfSixteen 16 0
+    (inl (inr (inl refl)), (inl (inr (inr (inl refl))), (inl (inr (inr (inr refl))), (inr (inr (inl (inl refl))), (inr (inl (inl refl)), (inl (inl refl), (inr (inl (inr (inl refl))), (inr (inr (inl (inr (inl refl)))), (inr (inr (inl (inr (inr refl)))), (inr (inr (inr (inl (inl refl)))), (inr (inl (inr (inr refl))), (inr (inr (inr (inl (inr (inl refl))))), (inr (inr (inr (inr (inl refl)))), (inr (inr (inr (inl (inr (inr refl))))), (inr (inr (inr (inr (inr (inl refl))))), (inr (inr (inr (inr (inr (inr refl))))), tt))))))))))))))))
+    r (omega arith) (omega arith)
+
 pub premised : (r : ℕ) → r < 16 → (r ≡ 0 → ⊥) → (r ≡ 1 → ⊥) → (r ≡ 2 → ⊥) → (r ≡ 5 → ⊥) → Premised r
-premised zero lt a b c d = absurd (a refl)
-premised (suc zero) lt a b c d = absurd (b refl)
-premised (suc (suc zero)) lt a b c d = absurd (c refl)
-premised (suc (suc (suc zero))) lt a b c d = inr (inl (inl refl))
-premised (suc (suc (suc (suc zero)))) lt a b c d = inl (inl refl)
-premised (suc (suc (suc (suc (suc zero))))) lt a b c d = absurd (d refl)
-premised (suc (suc (suc (suc (suc (suc zero)))))) lt a b c d = inl (inr (inl refl))
-premised (suc (suc (suc (suc (suc (suc (suc zero))))))) lt a b c d = inr (inl (inr (inl refl)))
-premised (suc (suc (suc (suc (suc (suc (suc (suc zero)))))))) lt a b c d = inr (inl (inr (inr refl)))
-premised (suc (suc (suc (suc (suc (suc (suc (suc (suc zero))))))))) lt a b c d = inr (inr (inl (inl refl)))
-premised (suc (suc (suc (suc (suc (suc (suc (suc (suc (suc zero)))))))))) lt a b c d = inl (inr (inr refl))
-premised (suc (suc (suc (suc (suc (suc (suc (suc (suc (suc (suc zero))))))))))) lt a b c d = inr (inr (inl (inr (inl refl))))
-premised (suc (suc (suc (suc (suc (suc (suc (suc (suc (suc (suc (suc zero)))))))))))) lt a b c d = inr (inr (inr (inl refl)))
-premised (suc (suc (suc (suc (suc (suc (suc (suc (suc (suc (suc (suc (suc zero))))))))))))) lt a b c d = inr (inr (inl (inr (inr refl))))
-premised (suc (suc (suc (suc (suc (suc (suc (suc (suc (suc (suc (suc (suc (suc zero)))))))))))))) lt a b c d = inr (inr (inr (inr (inl refl))))
-premised (suc (suc (suc (suc (suc (suc (suc (suc (suc (suc (suc (suc (suc (suc (suc zero))))))))))))))) lt a b c d = inr (inr (inr (inr (inr refl))))
-premised (suc (suc (suc (suc (suc (suc (suc (suc (suc (suc (suc (suc (suc (suc (suc (suc n)))))))))))))))) lt a b c d = absurd (omega arith)
+premised r lt a b c d = ⊎-elim (λ h. absurd (⊎-elim d (none-of a b c) h)) (λ h. h) (one-of-sixteen r lt)

@@ -8,8 +8,8 @@ use native.Mathlib.Omega.{arith}
 use lib.ListN.{getD}
 use Rattle.definition.specs.13-Formulas.{Formula}
 use Rattle.definition.specs.14-Book.{treeIn, book as trees}
-use Rattle.definition.specs.11-Layout.{log-part, count, agentOf}
-use Rattle.definition.specs.15-Records.{formulas}
+use Rattle.definition.specs.11-Layout.{agentOf}
+use Rattle.definition.specs.15-Records.{logOf, rowsIn, formulas}
 use Rattle.case_file.specs.Seen.{codeView}
 use Rattle.case_file.specs.Meanings.{viewMeant}
 use Rattle.definition.specs.17-Case.{caseOf}
@@ -22,11 +22,11 @@ use Rattle.definition.specs.21-Rules.{isThat, conclusion, rowConclusion, seenRo
 use Rattle.case_file.specs.LentCase.{CaseLent, Numbered}
 use Rattle.rules.specs.Policies.{policyMeant, PolicyIs}
 use Rattle.rules.specs.declared.policies.Policy.{Policy}
-use Rattle.case_file.proofs.LentCaseLaws.{parted, rows-few}
-use Rattle.rules.proofs.CitedFormulas.{numbered, named}
+use Rattle.case_file.proofs.LentCaseLaws.{parted, rows-few, numbered}
+use Rattle.rules.proofs.CitedFormulas.{named}
 
 -- Row k of the log, and the view w of it that the table gives.
-module _ {s b v : List ℕ} (case : CaseLent s b v) (k : ℕ) (inside : k < count s log-part) where
+module _ {s b v : List ℕ} (case : CaseLent s b v) (k : ℕ) (inside : k < rowsIn (logOf s)) where
   pub row-few : k < 1024
   row-few = omega (arith, inside, rows-few s (parted (case .lent)))
 

@@ -13,21 +13,20 @@ use Rattle.definition.specs.04-Checks.{Checked, single, inOrder}
 use Rattle.definition.proofs.Tests.{and-true, or-false}
 use Rattle.definition.specs.13-Formulas.{isPolicy, closed}
 use Rattle.definition.specs.14-Book.{treeIn, book as trees}
-use Rattle.formula_book.proofs.Laws.{number-inside}
-use Rattle.definition.specs.11-Layout.{formula-part, step-part, premise-part, part, count}
+use Rattle.definition.specs.11-Layout.{formula-part, step-part, premise-part, count}
 use Rattle.definition.specs.15-Records.{formulas, stepRule, stepFormula, stepArgument, stepFrom, stepCount, premiseStep, badSpan}
 use Rattle.definition.specs.17-Case.{caseOf}
-use Rattle.case_file.proofs.Laws.{admitted-booked}
+use Rattle.case_file.proofs.Laws.{formula-named}
 use Rattle.definition.proofs.Spans.{span-holds}
 use Rattle.definition.specs.21-Rules.{ruleAt}
 use Rattle.definition.specs.22-Steps.{ruleOf, premisesOf, mustBeAbsent, misshapen, misfit, fitChecks}
 use Rattle.case_file.specs.LentCase.{Lent, Numbered}
-use Rattle.case_parts.specs.StepRecord.{StepFields}
+use Rattle.case_parts.specs.Records.{StepFields}
 use Rattle.case_parts.specs.ShapedSteps.{CitedEntry, ShapedStep}
 use Rattle.rules.specs.PremiseFormulas.{PremiseThere, PremisesThere, premiseTrees, OneOfThree, Argued, Premised}
 use Rattle.case_parts.specs.declared.records.Step.{Step}
-use Rattle.case_file.proofs.LentCaseLaws.{parted, steps-few}
-use Rattle.rules.proofs.CitedFormulas.{numbered, named}
+use Rattle.case_file.proofs.LentCaseLaws.{parted, steps-few, numbered}
+use Rattle.rules.proofs.CitedFormulas.{named}
 use Rattle.rules.proofs.RuleNumbers.{some-premise, of-two, of-one, without-premise}
 
 map-listed : {A B : Type 0} (f : A → B) (g : ℕ → A) (n i : ℕ) → map f (listed g n i) ≡ listed (λ j. f (g j)) n i
@@ -66,9 +65,8 @@ shaped s k e =
 
 -- A well-shaped step has a formula of the book.
 pub formula-inside : {s b : List ℕ} (k : ℕ) → Lent s b → misshapen (caseOf s) k ≡ false → stepFormula s k < count s formula-part
-unfolding formulas isPolicy
-formula-inside {s} k lent fine =
-    number-inside (part s formula-part) (count s formula-part) (stepFormula s k) isPolicy (admitted-booked s (lent .admitted) .passes) refl (shaped s k fine .policy)
+unfolding isPolicy
+formula-inside {s} k lent fine = formula-named s (lent .admitted) (stepFormula s k) isPolicy refl (shaped s k fine .policy)
 
 module _ {s b : List ℕ} {k : ℕ} (lent : Lent s b) (st : ShapedStep s k) {t : Step} (is : StepFields s k t) where
   shape : Shaped s k

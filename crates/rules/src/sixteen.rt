@@ -23,15 +23,15 @@ ghost use Rattle.definition.specs.13-Formulas.{owns, isPolicy, dataOf};
 ghost use Rattle.definition.specs.14-Book.{sortOfCode, treeIn, book as trees};
 ghost use Rattle.formula_walks.specs.DataLists.{front};
 ghost use Rattle.formula_rows.specs.Meanings.{sortMeant};
-ghost use Rattle.definition.specs.11-Layout.{log-part, condition-part, obligation-part, label-part, count};
-ghost use Rattle.definition.specs.15-Records.{stepFormula, premiseStep};
+ghost use Rattle.definition.specs.11-Layout.{condition-part, obligation-part, label-part, count};
+ghost use Rattle.definition.specs.15-Records.{logOf, rowsIn, stepFormula, premiseStep};
 ghost use Rattle.definition.specs.18-Admission.{Parted};
 ghost use Rattle.definition.specs.17-Case.{Case, caseOf};
 ghost use Rattle.definition.specs.21-Rules as definition;
 ghost use Rattle.definition.specs.22-Steps.{misfit, fitChecks};
 ghost use Rattle.case_file.specs.LentCase.{Lent, CaseLent, Numbered};
 ghost use Rattle.words.specs.Meanings.{failureMeant};
-ghost use Rattle.case_parts.specs.StepRecord.{StepFields};
+ghost use Rattle.case_parts.specs.Records.{StepFields};
 ghost use Rattle.case_parts.specs.ShapedSteps.{CitedEntry, ShapedStep};
 ghost use Rattle.rules.specs.PremiseFormulas.{PremiseThere, PremisesThere, premiseTrees, OneOfThree, Argued, Premised};
 
@@ -51,11 +51,11 @@ fn suppose(file: &[u8], book: &[u8], f: u16, label: u16) -> bool
     requires { ⌜ label < count (now file) label-part ⌝ }
     ensures { λ r. ⌜ r ≡ definition.suppose (caseOf (now (file .entry))) (treeIn (trees (now (book .entry))) f) label [] ⌝ }
 {
-    let at = label as usize;
-    if case_parts::label_mark(file, at) != 0 {
+    let entry = case_parts::label_at(file, label as usize);
+    if entry.mark != 0 {
         return false;
     }
-    f == case_parts::label_formula(file, at)
+    f == entry.formula
 }
 
 // 1 "condition row". An absent condition is no formula's number.
@@ -70,7 +70,7 @@ fn condition_row(file: &[u8], book: &[u8], f: u16, condition: u16) -> bool
 // 2 "seen row: the row's conclusion for the agent". "Where a row has no conclusion for this agent, the step does not fit." The step is at `place`.
 fn seen_row(file: &[u8], book: &[u8], views: &[u16; 1024], f: u16, row: u16, place: u16) -> Failure
     requires { ⌜ CaseLent (now file) (now book) (now views) × Numbered (now book) f ⌝ }
-    requires { ⌜ row < count (now file) log-part ⌝ }
+    requires { ⌜ row < rowsIn (logOf (now file)) ⌝ }
     ensures { λ r. ⌜ failureMeant r ≡ inOrder (single 18 place (not (definition.seenRow (caseOf (now (file .entry))) (treeIn (trees (now (book .entry))) f) row [])) ∷ []) ⌝ }
 {
     let view = case_file::view_at(views, row as usize);
@@ -147,11 +147,11 @@ fn implies_intro(file: &[u8], book: &[u8], f: u16, label: u16, p: u16) -> bool
     requires { ⌜ label < count (now file) label-part ⌝ }
     ensures { λ r. ⌜ r ≡ definition.impliesIntro (caseOf (now (file .entry))) (treeIn (trees (now (book .entry))) f) label (treeIn (trees (now (book .entry))) p ∷ []) ⌝ }
 {
-    let at = label as usize;
-    if case_parts::label_mark(file, at) != 0 {
+    let entry = case_parts::label_at(file, label as usize);
+    if entry.mark != 0 {
         return false;
     }
-    is_implies(book, f, case_parts::label_formula(file, at), p)
+    is_implies(book, f, entry.formula, p)
 }
 
 // 11 "from G: a kind 6 or 7 formula over the label's action and mark (6 with mark 1, 7 with mark 2), closing it".
@@ -160,9 +160,8 @@ fn duty_intro(file: &[u8], book: &[u8], f: u16, label: u16, p: u16) -> bool
     requires { ⌜ label < count (now file) label-part ⌝ }
     ensures { λ r. ⌜ r ≡ definition.dutyIntro (caseOf (now (file .entry))) (treeIn (trees (now (book .entry))) f) label (treeIn (trees (now (book .entry))) p ∷ []) ⌝ }
 {
-    let at = label as usize;
-    let mark = case_parts::label_mark(file, at);
-    is_after(book, f, mark, case_parts::label_formula(file, at), p)
+    let entry = case_parts::label_at(file, label as usize);
+    is_after(book, f, entry.mark, entry.formula, p)
 }
 
 // 12 "from such a formula: its policy, by an obligation row of that mark and action".
@@ -171,9 +170,8 @@ fn duty_by_obligation(file: &[u8], book: &[u8], f: u16, obligation: u16, p: u16)
     requires { ⌜ obligation < count (now file) obligation-part ⌝ }
     ensures { λ r. ⌜ r ≡ definition.dutyByObligation (caseOf (now (file .entry))) (treeIn (trees (now (book .entry))) f) obligation (treeIn (trees (now (book .entry))) p ∷ []) ⌝ }
 {
-    let at = obligation as usize;
-    let mark = case_parts::obligation_mark(file, at);
-    is_after(book, p, mark, case_parts::obligation_action(file, at), f)
+    let entry = case_parts::obligation_at(file, obligation as usize);
+    is_after(book, p, entry.mark, entry.action, f)
 }
 
 // 13 "the same by a label".
@@ -182,9 +180,8 @@ fn duty_by_label(file: &[u8], book: &[u8], f: u16, label: u16, p: u16) -> bool
     requires { ⌜ label < count (now file) label-part ⌝ }
     ensures { λ r. ⌜ r ≡ definition.dutyByLabel (caseOf (now (file .entry))) (treeIn (trees (now (book .entry))) f) label (treeIn (trees (now (book .entry))) p ∷ []) ⌝ }
 {
-    let at = label as usize;
-    let mark = case_parts::label_mark(file, at);
-    is_after(book, p, mark, case_parts::label_formula(file, at), f)
+    let entry = case_parts::label_at(file, label as usize);
+    is_after(book, p, entry.mark, entry.formula, f)
 }
 
 // The sort that a for-all's code names.
@@ -234,8 +231,8 @@ fn premise_formula(file: &[u8], j: usize) -> u16
     requires { ⌜ Parted (now file) × PremiseThere (now file) j ⌝ }
     ensures { λ r. ⌜ r ≡ stepFormula (now (file .entry)) (premiseStep (now (file .entry)) j) ⌝ }
 {
-    let step = case_parts::premise_step(file, j);
-    case_parts::step_formula(file, step as usize)
+    let premise = case_parts::premise_step(file, j);
+    case_parts::step_at(file, premise as usize).formula
 }
 
 // Are the premises in the span "agent owns D", D the first `len` entries of `set` in their order?

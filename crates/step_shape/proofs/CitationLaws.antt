@@ -10,10 +10,9 @@ use borrow.Author.Tests.{ltb-true, not-false}
 use Rattle.definition.proofs.CheckLaws.{by-number, all-hold, hold-all, in-order-append, skip-behind}
 use Rattle.definition.specs.01-Words.{absent}
 use Rattle.definition.specs.04-Checks.{accepts, _>>_, single, check, try, inOrder}
-use Rattle.definition.specs.11-Layout.{log-part, count}
 use Rattle.definition.specs.13-Formulas.{Formula}
 use Rattle.definition.specs.14-Book.{treeIn}
-use Rattle.definition.specs.15-Records.{formulas, conditionFormula}
+use Rattle.definition.specs.15-Records.{logOf, rowsIn, formulas, conditionFormula}
 use Rattle.definition.specs.16-Views.{RowView}
 use Rattle.definition.specs.17-Case.{Case, caseOf, reading}
 use Rattle.definition.specs.21-Rules.{Names, nothing, a-label, a-condition, a-row, an-obligation, a-term}
@@ -82,6 +81,6 @@ no-reading s a = go (eqb (conditionFormula s a) absent) (treeIn (formulas s) (co
     go false f = refl
 
 -- One look at the table tells what the agent sees of a row.
-pub row-looked : (s b v : List ℕ) (a : ℕ) → CaseLent s b v → a < count s log-part → (r : RowView) → r ≡ codeView (formulas s) (getD v a 0) → caseOf s .row a ≡ r
+pub row-looked : (s b v : List ℕ) (a : ℕ) → CaseLent s b v → a < rowsIn (logOf s) → (r : RowView) → r ≡ codeView (formulas s) (getD v a 0) → caseOf s .row a ≡ r
 unfolding caseOf
 row-looked s b v a h lt r e = sym (e ∙ h .views a lt)

@@ -13,6 +13,7 @@ use words::Failure;
 ghost use mathlib.Core.Path.{_≡_};
 ghost use Rattle.definition.specs.04-Checks.{inOrder};
 ghost use Rattle.definition.specs.17-Case.{caseOf};
+ghost use Rattle.definition.specs.18-Admission.{Parted};
 ghost use Rattle.definition.specs.21-Rules.{a-row, a-condition};
 ghost use Rattle.definition.specs.22-Steps.{citationChecks};
 ghost use Rattle.words.specs.Meanings.{failureMeant};
@@ -34,14 +35,8 @@ fn check_entry(entries: usize, argument: u16, place: u16) -> Failure
 }
 
 // A condition is there, and a reading was certified.
-fn check_condition(
-    file: &[u8],
-    book: &[u8],
-    views: &[u16; 1024],
-    argument: u16,
-    place: u16,
-) -> Failure
-    requires { ⌜ CaseLent (now file) (now book) (now views) ⌝ }
+fn check_condition(file: &[u8], argument: u16, place: u16) -> Failure
+    requires { ⌜ Parted (now file) ⌝ }
     ensures { λ r. ⌜ failureMeant r ≡ inOrder (citationChecks (caseOf (now (file .entry))) a-condition argument place) ⌝ }
 {
     let entry = check_entry(count_of(file, CONDITIONS), argument, place);
@@ -90,7 +85,7 @@ pub fn check_citation(
     match names {
         Names::Nothing => Failure::None,
         Names::Label => check_entry(count_of(file, LABELS), argument, place),
-        Names::Condition => check_condition(file, book, views, argument, place),
+        Names::Condition => check_condition(file, argument, place),
         Names::Row => check_row(file, book, views, argument, place),
         Names::Obligation => check_entry(count_of(file, OBLIGATIONS), argument, place),
         Names::Term => {

@@ -2,27 +2,25 @@
 use crate::rule_lines::Names;
 use crate::rule_lines::Shape;
 use case_file::closed_policy;
-use case_parts::FORMULAS;
 use case_parts::PREMISES;
 use case_parts::STEPS;
 use case_parts::Step;
 use case_parts::bad_span;
 use case_parts::count_of;
-use case_parts::step_count;
-use case_parts::step_from;
+use case_parts::step_at;
 use formula_rows::Term;
 ghost use mathlib.Core.Path.{_≡_};
 ghost use mathlib.Core.Bool.{not, _&&_};
 ghost use Prim.Native.Nat.{_<_};
 ghost use lib.Dec.{eqb};
 ghost use Rattle.definition.specs.01-Words.{absent};
-ghost use Rattle.definition.specs.11-Layout.{step-part, premise-part, formula-part, count};
+ghost use Rattle.definition.specs.11-Layout.{step-part, premise-part, count};
 ghost use Rattle.definition.specs.15-Records.{badSpan, spanDue, stepFrom, stepCount};
 ghost use Rattle.definition.specs.17-Case.{caseOf};
 ghost use Rattle.definition.specs.18-Admission.{Parted};
 ghost use Rattle.definition.specs.22-Steps.{misshapen as isMisshapen, mustBeAbsent, ruleOf};
 ghost use Rattle.case_file.specs.Booked.{Booked};
-ghost use Rattle.case_parts.specs.StepRecord.{StepFields};
+ghost use Rattle.case_parts.specs.Records.{StepFields};
 ghost use Rattle.step_shape.specs.Meanings.{shapeMeant, namesMeant};
 ghost use Rattle.step_shape.specs.RuleLines.{shapeOf};
 ghost use Rattle.step_shape.specs.RuleFit.{unlikeRule};
@@ -35,9 +33,8 @@ fn premises_due(file: &[u8], k: usize) -> usize
     if k == 0 {
         return 0;
     }
-    let from = step_from(file, k - 1) as usize;
-    let len = step_count(file, k - 1) as usize;
-    from + len
+    let before = step_at(file, k - 1);
+    before.from as usize + before.len as usize
 }
 
 // Is the span of step `k`'s premises at fault?
@@ -87,15 +84,14 @@ fn unlike_rule(shape: Shape, len: u16, argument: u16) -> bool
 
 // Check 12 of step `k`.
 pub fn misshapen(file: &[u8], book: &[u8], k: usize, step: Step, shape: Shape) -> bool
-    requires { ⌜ Parted (now file) × (k < count (now file) step-part) ⌝ }
-    requires { ⌜ Booked (now file) (now book) (count (now file) formula-part) ⌝ }
+    requires { ⌜ Booked (now file) (now book) × (k < count (now file) step-part) ⌝ }
     requires { ⌜ StepFields (now file) k step × (shapeMeant shape ≡ shapeOf (ruleOf (caseOf (now file)) k)) ⌝ }
     ensures { λ r. ⌜ r ≡ isMisshapen (caseOf (now (file .entry))) k ⌝ }
 {
     if 15 < step.rule {
         return true;
     }
-    if !closed_policy(book, count_of(file, FORMULAS), step.formula) {
+    if !closed_policy(book, step.formula) {
         return true;
     }
     if bad_premise_span(file, k, step.from, step.len) {

@@ -16,7 +16,7 @@ use Rattle.definition.specs.15-Records.{formulas, labelFormula, stepRule, stepF
 use Rattle.definition.specs.17-Case.{caseOf}
 use Rattle.tables.specs.Sets.{labelsOf}
 use Rattle.case_file.specs.LentCase.{Lent}
-use Rattle.case_parts.specs.StepRecord.{StepFields}
+use Rattle.case_parts.specs.Records.{StepFields}
 use Rattle.steps.specs.OpenLabels.{inOpenLabels}
 use Rattle.case_parts.specs.declared.records.Step.{Step}
 use Rattle.case_file.proofs.LentCaseLaws.{parted, labels-few}

@@ -4,7 +4,6 @@ use mathlib.Core.Path.{_≡_, refl, _∙_, fun-ext}
 use mathlib.Core.Bool.{Bool, true, false, _&&_, and-false}
 use mathlib.Core.List.{List, _∷_}
 use native.Mathlib.Omega.{arith}
-use lib.ListN.{getD}
 use lib.Dec.{eqb, ltb}
 use borrow.Author.Tests.{lt-ltb, le-ltb, eqb-true, eqb-false, ne-eqb, ltb-true, ltb-false}
 use Rattle.definition.specs.02-Ranges.{any, listed, update}
@@ -60,9 +59,9 @@ shared-is s p q few =
     (λ l below. rw (lt-ltb l (count s label-part) below))
     (λ l up below. rw (le-ltb l (count s label-part) up))
 
-module _ (s : List ℕ) (opens : List ℕ) where
+module _ (s : List ℕ) (left : List ℕ) where
   -- no premise
-  pub above-nothing : (j : ℕ) (r : Above) → labelsOf (r .labels .bits) ≡ (λ l. false) → r .shared ≡ false → IsAbove s j (j - j) opens r
+  pub above-nothing : (j : ℕ) (r : Above) → labelsOf (r .labels .bits) ≡ (λ l. false) → r .shared ≡ false → IsAbove s j (j - j) left r
   unfolding joined share
   above-nothing j r e f =
       record {
@@ -73,15 +72,15 @@ module _ (s : List ℕ) (opens : List ℕ) where
   -- one more, before those that are there
   pub above-more :
       (end j p : ℕ) (eachUse premise : ℕ) (before after : Above) → count s label-part ≤ 32 → j < end → p ≡ premiseStep s j →
-      labelsOf eachUse ≡ eachUseLabels s → premise ≡ getD opens p 0 →
-      IsAbove s (j + 1) (end - (j + 1)) opens before → OneMore (labelsOf eachUse) (labelsOf premise) before after → IsAbove s j (end - j) opens after
-  unfolding joined share opensOf caseOf
+      labelsOf eachUse ≡ eachUseLabels s → labelsOf premise ≡ opensOf left p →
+      IsAbove s (j + 1) (end - (j + 1)) left before → OneMore (labelsOf eachUse) (labelsOf premise) before after → IsAbove s j (end - j) left after
+  unfolding joined share caseOf
   above-more end j p eachUse premise before after few lt e u b h m =
       let ps = listed (premiseStep s) (end - (j + 1)) (j + 1) in
       let next : listed (premiseStep s) (end - j) j ≡ p ∷ ps = rw e (listed-next (premiseStep s) end j lt) in
       record {
         labels = m .labels ∙ rw (next, b, h .labels) (fun-ext (λ l. refl));
-        shared = m .shared ∙ rw (next, u, b, h .labels, h .shared, shared-is s (opensOf opens p) (joined (opensOf opens) ps) few);
+        shared = m .shared ∙ rw (next, u, b, h .labels, h .shared, shared-is s (opensOf left p) (joined (opensOf left) ps) few);
       }
 
 -- A label that a step adds is one of the file's.

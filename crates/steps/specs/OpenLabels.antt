@@ -9,7 +9,7 @@ use Rattle.definition.specs.11-Layout.{label-part, count}
 use Rattle.definition.specs.13-Formulas.{each-use, this-term, has}
 use Rattle.definition.specs.15-Records.{premiseStep, labelMark}
 use Rattle.definition.specs.17-Case.{Case, caseOf}
-use Rattle.definition.specs.22-Steps.{Labels, State, premisesOf, isAnObligation, isAdding, isEachUse, joined, share}
+use Rattle.definition.specs.22-Steps.{Labels, State, opensIn, premisesOf, isAnObligation, isAdding, isEachUse, joined, share}
 use Rattle.tables.specs.Sets.{labelsOf, opensOf}
 use Rattle.step_shape.specs.RuleLines.{RuleShape}
 use Rattle.steps.specs.declared.uses.Above.{Above}
@@ -27,14 +27,14 @@ pub record OneMore (eachUse premise : Labels) (before after : Above) : Type 0 wh
   pub shared : after .shared ≡ (any (λ l. eachUse l && premise l && labelsOf (before .labels .bits) l) 32 0 || before .shared)
 
 -- What the premises of the span leave open together, and whether two of them share an each-use label.
-pub record IsAbove (s : List ℕ) (from len : ℕ) (opens : List ℕ) (r : Above) : Type 0 where
-  pub labels : labelsOf (r .labels .bits) ≡ joined (opensOf opens) (listed (premiseStep s) len from)
-  pub shared : r .shared ≡ share (caseOf s) (opensOf opens) (listed (premiseStep s) len from)
+pub record IsAbove (s : List ℕ) (from len : ℕ) (left : List ℕ) (r : Above) : Type 0 where
+  pub labels : labelsOf (r .labels .bits) ≡ joined (opensOf left) (listed (premiseStep s) len from)
+  pub shared : r .shared ≡ share (caseOf s) (opensOf left) (listed (premiseStep s) len from)
 
 -- The same of the premises of step k, in a state.
 pub record AboveIn (c : Case) (k : ℕ) (s : State) (labels : Labels) (shared : Bool) : Type 0 where
-  pub labels-are : labels ≡ joined (s .opens) (premisesOf c k)
-  pub shared-is : shared ≡ share c (s .opens) (premisesOf c k)
+  pub labels-are : labels ≡ joined (opensIn s) (premisesOf c k)
+  pub shared-is : shared ≡ share c (opensIn s) (premisesOf c k)
 
 -- Check 17, from the obligations discharged before, the labels that the premises leave open together, and whether two of them share an each-use label.
 unfoldable pub twiceUsed : Case → RuleShape → ℕ → (discharged : ℕ → Bool) → (above : Labels) → (shared : Bool) → Bool

@@ -6,8 +6,8 @@ use mathlib.Core.List.{List}
 use lib.ListN.{length}
 use Rattle.definition.specs.04-Checks.{Checked, accepts, refuses, inOrder}
 use Rattle.definition.specs.17-Case.{Case, caseOf}
-use Rattle.definition.specs.22-Steps.{Labels, State, premisesOf, misshapen, joined, next, shapeChecks, stepChecks}
-use Rattle.tables.specs.Sets.{labelsOf, marks}
+use Rattle.definition.specs.22-Steps.{Labels, State, opensIn, usedIn, premisesOf, misshapen, joined, next, shapeChecks, stepChecks, withUsed}
+use Rattle.tables.specs.Sets.{labelsOf, leftIn, usedOf}
 use Rattle.words.specs.declared.runs.Failure.{Failure}
 use Rattle.words.specs.Meanings.{failureMeant}
 use Rattle.step_shape.specs.TakenPremises.{takes}
@@ -23,8 +23,7 @@ byRun (refuses n p) a b = b
 unfoldable pub touched : Case → ℕ → State → State
 touched c k s =
     record {
-      opens = s .opens;
-      used = cond (misshapen c k) (s .used) (takes (s .used) k (premisesOf c k));
+      left = withUsed (s .left) (cond (misshapen c k) (usedIn s) (takes (usedIn s) k (premisesOf c k)));
       cited = s .cited;
       discharged = s .discharged;
     }
@@ -35,21 +34,21 @@ afterStep c k s = byRun (inOrder (stepChecks c k s)) (next c k s) (touched c k s
 
 -- The labels told beside the answer to step k: those that its premises leave open together, and none where one of checks 12 to 16 fails.
 unfoldable pub aboveTold : Case → ℕ → State → Labels
-aboveTold c k s = byRun (inOrder (shapeChecks c k s)) (joined (s .opens) (premisesOf c k)) (λ l. false)
+aboveTold c k s = byRun (inOrder (shapeChecks c k s)) (joined (opensIn s) (premisesOf c k)) (λ l. false)
 
 -- Refused by one of checks 12 to 16, with no labels.
 abbrev pub RefusedBy : (number place : ℕ) → Judged → Type 0
 RefusedBy n p r = (failureMeant (r .fault) ≡ refuses n p) × (labelsOf (r .above .bits) ≡ (λ l. false))
 
--- What checks 12 to 19 find of step k, and every entry of the table of used steps. The rows cited have no part in it.
-pub record JudgedAs (f : List ℕ) (k : ℕ) (o : List ℕ) (u d : List Bool) (r : Judged) (u′ : List Bool) : Type 0 where
-  pub long : length u′ ≡ 2048
-  pub is : (c : List Bool) → failureMeant (r .fault) ≡ inOrder (stepChecks (caseOf f) k (stateOf o u c d))
-  pub above : (c : List Bool) → labelsOf (r .above .bits) ≡ aboveTold (caseOf f) k (stateOf o u c d)
-  pub used : marks u′ ≡ cond (misshapen (caseOf f) k) (marks u) (takes (marks u) k (premisesOf (caseOf f) k))
+-- What checks 12 to 19 find of step k, and every entry of the table of steps. The rows cited have no part in it.
+pub record JudgedAs (f : List ℕ) (k : ℕ) (l : List ℕ) (d : List Bool) (r : Judged) (l′ : List ℕ) : Type 0 where
+  pub long : length l′ ≡ 2048
+  pub is : (c : List Bool) → failureMeant (r .fault) ≡ inOrder (stepChecks (caseOf f) k (stateOf l c d))
+  pub above : (c : List Bool) → labelsOf (r .above .bits) ≡ aboveTold (caseOf f) k (stateOf l c d)
+  pub left : leftIn l′ ≡ withUsed (leftIn l) (cond (misshapen (caseOf f) k) (usedOf l) (takes (usedOf l) k (premisesOf (caseOf f) k)))
 
 -- Step k from the state s: the first check that fails, and every entry of the tables.
-pub record Stepped (f : List ℕ) (k : ℕ) (s : State) (r : Failure) (o : List ℕ) (u c d : List Bool) : Type 0 where
-  pub tables : Tables o u c d
+pub record Stepped (f : List ℕ) (k : ℕ) (s : State) (r : Failure) (l : List ℕ) (c d : List Bool) : Type 0 where
+  pub tables : Tables l c d
   pub is : failureMeant r ≡ inOrder (stepChecks (caseOf f) k s)
-  pub state : stateOf o u c d ≡ afterStep (caseOf f) k s
+  pub state : stateOf l c d ≡ afterStep (caseOf f) k s

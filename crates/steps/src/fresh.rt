@@ -14,7 +14,7 @@ ghost use Rattle.definition.specs.15-Records.{formulas, stepRule, stepFormula, 
 ghost use Rattle.definition.specs.17-Case.{caseOf};
 ghost use Rattle.tables.specs.Sets.{labelsOf};
 ghost use Rattle.case_file.specs.LentCase.{Lent};
-ghost use Rattle.case_parts.specs.StepRecord.{StepFields};
+ghost use Rattle.case_parts.specs.Records.{StepFields};
 ghost use Rattle.case_parts.specs.ShapedSteps.{ShapedStep};
 ghost use Rattle.steps.specs.OpenLabels.{inOpenLabels};
 
@@ -25,8 +25,8 @@ fn in_open_label(file: &[u8], book: &[u8], term: u16, above: OpenSet, l: usize) 
     ensures { λ r. ⌜ r ≡ (labelsOf (above .bits) l && has (this-term term) 0 (treeIn (formulas (now (file .entry))) (labelFormula (now (file .entry)) l))) ⌝ }
 {
     if above.has(l as u32) {
-        let formula = case_parts::label_formula(file, l);
-        return formula_book::formula_has(book, Sought::Term(term), formula as usize);
+        let label = case_parts::label_at(file, l);
+        return formula_book::formula_has(book, Sought::Term(term), label.formula as usize);
     }
     false
 }

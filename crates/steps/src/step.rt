@@ -14,6 +14,7 @@ use step_shape::misshapen;
 use step_shape::shape_of;
 use step_shape::take_premises;
 use tables::OpenSet;
+use tables::set_opens;
 use words::Failure;
 ghost use mathlib.Core.Path.{_≡_};
 ghost use Prim.Native.Nat.{_<_};
@@ -23,7 +24,7 @@ ghost use Rattle.definition.specs.11-Layout.{step-part, count};
 ghost use Rattle.definition.specs.17-Case.{caseOf};
 ghost use Rattle.definition.specs.22-Steps.{State, leaves as leavesOf, ruleOf, useChecks};
 ghost use Rattle.words.specs.Meanings.{failureMeant};
-ghost use Rattle.case_parts.specs.StepRecord.{StepFields};
+ghost use Rattle.case_parts.specs.Records.{StepFields};
 ghost use Rattle.tables.specs.Sets.{labelsOf, marks};
 ghost use Rattle.case_file.specs.LentCase.{CaseLent};
 ghost use Rattle.case_parts.specs.ShapedSteps.{EarlierNumbered};
@@ -124,15 +125,14 @@ fn check_step(
     k: usize,
     step: Step,
     shape: Shape,
-    opens: &[u32; 2048],
-    used: &mut [bool; 2048],
+    left: &mut [u64; 2048],
     discharged: &[bool; 64],
 ) -> Judged
     requires { ⌜ CaseLent (now file) (now book) (now views) × (labelsOf (each_use .bits) ≡ eachUseLabels (now file)) ⌝ }
     requires { ⌜ (k < count (now file) step-part) × EarlierNumbered (now file) k ⌝ }
     requires { ⌜ StepFields (now file) k step × (shapeMeant shape ≡ shapeOf (ruleOf (caseOf (now file)) k)) ⌝ }
-    requires { ⌜ (length (now opens) ≡ 2048) × (length (now used) ≡ 2048) × (length (now discharged) ≡ 64) ⌝ }
-    ensures { λ r. ⌜ JudgedAs (now (file .entry)) k (now (opens .entry)) (now (used .entry)) (now (discharged .entry)) r (now (used .exit)) ⌝ }
+    requires { ⌜ (length (now left) ≡ 2048) × (length (now discharged) ≡ 64) ⌝ }
+    ensures { λ r. ⌜ JudgedAs (now (file .entry)) k (now (left .entry)) (now (discharged .entry)) r (now (left .exit)) ⌝ }
 {
     let place = k as u16;
     if misshapen(file, book, k, step, shape) {
@@ -140,7 +140,7 @@ fn check_step(
     }
     let from = step.from as usize;
     let len = step.len as usize;
-    if take_premises(file, k, from, len, used) {
+    if take_premises(file, k, from, len, left) {
         return refused(13, place);
     }
     let names = shape.names;
@@ -148,7 +148,7 @@ fn check_step(
     match cited {
         Failure::At(number, at) => refused(number, at),
         Failure::None => {
-            let above = open_above(file, from, len, opens, each_use);
+            let above = open_above(file, from, len, left, each_use);
             let fault = check_uses(
                 file,
                 book,
@@ -176,15 +176,14 @@ pub fn take_step(
     views: &[u16; 1024],
     each_use: OpenSet,
     k: usize,
-    opens: &mut [u32; 2048],
-    used: &mut [bool; 2048],
+    left: &mut [u64; 2048],
     cited: &mut [bool; 1024],
     discharged: &mut [bool; 64],
 ) -> Failure
     requires { ⌜ CaseLent (now file) (now book) (now views) × (labelsOf (each_use .bits) ≡ eachUseLabels (now file)) ⌝ }
     requires { ⌜ (k < count (now file) step-part) × EarlierNumbered (now file) k ⌝ }
-    requires { ⌜ Tables (now opens) (now used) (now cited) (now discharged) ⌝ }
-    ensures { λ r. ⌜ Stepped (now (file .entry)) k (stateOf (now (opens .entry)) (now (used .entry)) (now (cited .entry)) (now (discharged .entry))) r (now (opens .exit)) (now (used .exit)) (now (cited .exit)) (now (discharged .exit)) ⌝ }
+    requires { ⌜ Tables (now left) (now cited) (now discharged) ⌝ }
+    ensures { λ r. ⌜ Stepped (now (file .entry)) k (stateOf (now (left .entry)) (now (cited .entry)) (now (discharged .entry))) r (now (left .exit)) (now (cited .exit)) (now (discharged .exit)) ⌝ }
 {
     let step = step_at(file, k);
     let shape = shape_of(step.rule);
@@ -196,8 +195,7 @@ pub fn take_step(
         k,
         step,
         shape,
-        opens,
-        used,
+        left,
         discharged,
     );
     let fault = judged.fault;
@@ -205,8 +203,8 @@ pub fn take_step(
         Failure::At(number, place) => Failure::At(number, place),
         Failure::None => {
             let effect = shape.effect;
-            let left = leaves(effect, step.argument, judged.above);
-            opens[k] = left.bits;
+            let labels = leaves(effect, step.argument, judged.above);
+            set_opens(left, k, labels);
             let names = shape.names;
             mark_cited(names, step.argument, cited, discharged);
             Failure::None

@@ -1,13 +1,14 @@
 // Check 17: what may be used once only. And the labels that the premises of a step leave open together.
 use case_parts::LABELS;
 use case_parts::count_of;
-use case_parts::label_mark;
-use case_parts::obligation_mark;
+use case_parts::label_at;
+use case_parts::obligation_at;
 use case_parts::premise_step;
 use step_shape::Effect;
 use step_shape::Names;
 use step_shape::Shape;
 use tables::OpenSet;
+use tables::opens_at;
 ghost use mathlib.Core.Path.{_≡_};
 ghost use mathlib.Core.Bool.{false, _&&_};
 ghost use Prim.Native.Nat.{_+_, _<_, _≤_};
@@ -66,7 +67,8 @@ fn with_label(file: &[u8], set: OpenSet, l: usize) -> OpenSet
     requires { ⌜ labelsOf (set .bits) ≡ eachUseBelow (now file) l ⌝ }
     ensures { λ r. ⌜ labelsOf (r .bits) ≡ eachUseBelow (now (file .entry)) (l + 1) ⌝ }
 {
-    if label_mark(file, l) == 1 {
+    let label = label_at(file, l);
+    if label.mark == 1 {
         return set.add(l as u32);
     }
     set
@@ -92,21 +94,20 @@ pub fn open_above(
     file: &[u8],
     from: usize,
     len: usize,
-    opens: &[u32; 2048],
+    left: &[u64; 2048],
     each_use: OpenSet,
 ) -> Above
     requires { ⌜ Parted (now file) × (from + len ≤ count (now file) premise-part) ⌝ }
-    requires { ⌜ PremisesBelow (now file) from len 2048 × (length (now opens) ≡ 2048) ⌝ }
+    requires { ⌜ PremisesBelow (now file) from len 2048 × (length (now left) ≡ 2048) ⌝ }
     requires { ⌜ labelsOf (each_use .bits) ≡ eachUseLabels (now file) ⌝ }
-    ensures { λ r. ⌜ IsAbove (now (file .entry)) from len (now (opens .entry)) r ⌝ }
+    ensures { λ r. ⌜ IsAbove (now (file .entry)) from len (now (left .entry)) r ⌝ }
 {
     let mut above = Above::nothing();
     let mut j = from + len;
     while from < j {
         j -= 1;
         let p = premise_step(file, j) as usize;
-        let premise = OpenSet { bits: opens[p] };
-        above = above.with(premise, each_use);
+        above = above.with(opens_at(left, p), each_use);
     }
     above
 }
@@ -124,7 +125,8 @@ fn discharged_before(file: &[u8], names: Names, argument: u16, discharged: &[boo
         Names::Row => false,
         Names::Obligation => {
             let entry = argument as usize;
-            if obligation_mark(file, entry) == 1 {
+            let obligation = obligation_at(file, entry);
+            if obligation.mark == 1 {
                 return discharged[entry];
             }
             false

@@ -1,6 +1,6 @@
 -- A table after an assignment, a table of one value, and tests that need not be asked of all 32 labels. Assumes nothing.
 use Prim.Native.Nat.{ℕ, zero, suc, _≤_, _<_}
-use mathlib.Core.Path.{_≡_, refl, sym, _∙_, fun-ext}
+use mathlib.Core.Path.{_≡_, refl, sym, ap, _∙_, fun-ext}
 use mathlib.Core.Bool.{Bool, true, false}
 use mathlib.Core.List.{List}
 use native.Mathlib.Omega.{arith}
@@ -9,9 +9,10 @@ use lib.Seq.{getD-set-same, getD-set-other}
 use lib.Dec.{eqb}
 use borrow.Author.Tests.{eqb-true, eqb-false}
 use Rattle.definition.specs.02-Ranges.{any, update}
+use Rattle.definition.specs.22-Steps.{Labels, Left, withOpens, withUsed}
 use Rattle.definition.proofs.Tests.{not-both, one-answer}
 use Rattle.definition.proofs.RangeLaws.{any-true, any-some}
-use Rattle.tables.specs.Sets.{labelsOf, marks, opensOf}
+use Rattle.tables.specs.Sets.{marks, leftOf, leftIn, opensOf, usedOf}
 
 -- An assignment, in a table whose entries are read by f.
 set-updates :
@@ -28,9 +29,25 @@ pub marks-set : (t : List Bool) (k : ℕ) (v : Bool) → k < length t → marks 
 unfolding marks
 marks-set t k v h = fun-ext (set-updates (λ b. b) t false k v h)
 
-pub opens-set : (t : List ℕ) (k n : ℕ) → k < length t → opensOf (set t k n) ≡ update (opensOf t) k (labelsOf n)
-unfolding opensOf
-opens-set t k n h = fun-ext (set-updates labelsOf t 0 k n h)
+pub update-own : {A : Type 0} (f : ℕ → A) (k : ℕ) → update f k (f k) ≡ f
+unfolding update
+update-own f k = fun-ext (λ j. go j (eqb j k) refl)
+  where
+    go : (j : ℕ) (b : Bool) → eqb j k ≡ b → update f k (f k) j ≡ f j
+    go j true e = rw (e, eqb-true j k e)
+    go j false e = rw e
+
+-- An entry of the table of what the steps leave behind: other labels, or the mark that it is used.
+module _ (t : List ℕ) (k n : ℕ) (h : k < length t) where
+  entry-set : {A : Type 0} (f : Left → A) {v : A} → f (leftOf n) ≡ v → (λ j. f (leftIn (set t k n) j)) ≡ update (λ j. f (leftIn t j)) k v
+  unfolding leftIn
+  entry-set f e = fun-ext (set-updates (λ m. f (leftOf m)) t 0 k n h) ∙ ap (update (λ j. f (leftIn t j)) k) e
+
+  pub opens-set : {ls : Labels} → leftOf n .opens ≡ ls → leftOf n .used ≡ usedOf t k → leftIn (set t k n) ≡ withOpens (leftIn t) (update (opensOf t) k ls)
+  opens-set e f = λ i j. record { opens = entry-set (λ v. v .opens) e i j; used = (entry-set (λ v. v .used) f ∙ update-own (usedOf t) k) i j }
+
+  pub used-set : leftOf n .opens ≡ opensOf t k → leftOf n .used ≡ true → leftIn (set t k n) ≡ withUsed (leftIn t) (update (usedOf t) k true)
+  used-set e f = λ i j. record { opens = (entry-set (λ v. v .opens) e ∙ update-own (opensOf t) k) i j; used = entry-set (λ v. v .used) f i j }
 
 -- A table of one value.
 pub getD-replicated : {A : Type 0} (n : ℕ) (x : A) (j : ℕ) → getD (replicate n x) j x ≡ x

@@ -1,17 +1,28 @@
--- How the code's sets and tables are read: each as a test of a number.
+-- How the code's sets and tables are read: each as a test of a number, or as what a step leaves behind.
 use Prim.Native.Nat.{ℕ, _/_, _%_, _^_}
 use mathlib.Core.Bool.{Bool, false}
 use mathlib.Core.List.{List}
 use lib.ListN.{getD}
 use lib.Dec.{eqb}
+use Rattle.definition.specs.22-Steps.{Labels, Left}
 
 -- The labels that the binary digits of a number stand for.
-unfoldable pub labelsOf : ℕ → ℕ → Bool
+unfoldable pub labelsOf : ℕ → Labels
 labelsOf n l = eqb (n / 2 ^ l % 2) 1
 
--- A table of flags, and a table of label sets.
+-- What a number says that a step leaves behind: the digits 0 to 31 are the labels left open, and digit 32 tells that it is used.
+abbrev pub leftOf : ℕ → Left
+leftOf n = record { opens = labelsOf (n % 2 ^ 32); used = eqb (n / 2 ^ 32 % 2) 1 }
+
+-- A table of flags, and the table of what the steps leave behind.
 unfoldable pub marks : List Bool → ℕ → Bool
 marks t k = getD t k false
 
-unfoldable pub opensOf : List ℕ → ℕ → ℕ → Bool
-opensOf t k = labelsOf (getD t k 0)
+unfoldable pub leftIn : List ℕ → ℕ → Left
+leftIn t k = leftOf (getD t k 0)
+
+abbrev pub opensOf : List ℕ → ℕ → Labels
+opensOf t k = leftIn t k .opens
+
+abbrev pub usedOf : List ℕ → ℕ → Bool
+usedOf t k = leftIn t k .used

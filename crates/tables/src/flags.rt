@@ -1,26 +1,10 @@
-// Tables of flags, one for each step, row or obligation: the lowest without one, how many have one, and their numbers written out.
+// Tables of flags, one for each row or obligation: how many have one, and their numbers written out.
 ghost use mathlib.Core.Path.{_≡_};
-ghost use mathlib.Core.Bool.{not};
 ghost use mathlib.Core.List.{_++_};
 ghost use Prim.Native.Nat.{_+_, _≤_};
 ghost use lib.ListN.{length, drop};
-ghost use Rattle.definition.specs.02-Ranges.{lowest, members};
+ghost use Rattle.definition.specs.02-Ranges.{members};
 ghost use Rattle.tables.specs.Sets.{marks as marksOf};
-
-// The lowest of the first `n` that has none, or `n`.
-pub fn first_unmarked(flags: &[bool], n: usize) -> usize
-    requires { ⌜ n ≤ length (now flags) ⌝ }
-    ensures { λ r. ⌜ r ≡ lowest (λ k. not (marksOf (now (flags .entry)) k)) n 0 ⌝ }
-{
-    let mut k: usize = 0;
-    while k < n {
-        if !flags[k] {
-            return k;
-        }
-        k += 1;
-    }
-    n
-}
 
 // How many of the first `n` are marked.
 pub fn count_marked(flags: &[bool], n: usize) -> usize

@@ -1,8 +1,13 @@
-// Sets of labels by value, and tables of flags.
+// Sets of labels by value, the table of what the steps leave behind, and tables of flags.
 mod flags;
+mod left;
 mod open_set;
 
 pub use flags::count_marked;
-pub use flags::first_unmarked;
 pub use flags::write_lists;
+pub use left::first_unused;
+pub use left::is_used;
+pub use left::mark_used;
+pub use left::opens_at;
+pub use left::set_opens;
 pub use open_set::OpenSet;

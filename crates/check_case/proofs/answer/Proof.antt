@@ -5,6 +5,7 @@ use mathlib.Core.List.{List}
 use native.Mathlib.Omega.{arith}
 use lib.ListN.{length}
 use lib.Seq.{length-take-le}
+use Rattle.definition.proofs.PromiseLaws.{answer-is, room-is}
 use Rattle.definition.specs.31-Outcome.{outcome}
 use Rattle.checker.specs.Meanings.{verdictMeant}
 use Rattle.check_case.specs.Written.{Written}
@@ -43,19 +44,10 @@ returns c =
     let room = k .last .1 .0 in
     let most = report-most bytes (verdictMeant (k .result)) room in
     let within : r .result ≤ length (r .last .1 .1 .1 .0) = omega (arith, r .ensures .ends, kept (r .ensures), most, k .kept .1 .0) in
-    let text = ap (λ v. reportText bytes v room) (k .ensures .verdict) ∙ ap (reportText bytes (outcome (a .case .now) lentRoom .verdict)) (k .ensures .room-is) in (
+    let text = ap (λ v. reportText bytes v room) (answer-is (λ v. v) (k .ensures)) ∙ ap (reportText bytes (outcome (a .case .now) lentRoom .verdict)) (room-is (λ v. v) (k .ensures)) in (
       (within, sym (length-take-le (r .result) (r .last .1 .1 .1 .0) within)),
       subst (λ (t : List ℕ). Written (a .text .now) 0 t (r .last .1 .1 .1 .0) (r .result)) text (r .ensures),
     )
 
 pub answer-spec : {M : Type 1} → statement M
-answer-spec =
-    tie.close
-    (tie.spec
-    slice-aggregate-check
-    check-requires
-    cast-report
-    slice-aggregate-report
-    report-requires
-    same-length
-    returns)
+answer-spec = tie.close (tie.spec slice-aggregate-check check-requires cast-report slice-aggregate-report report-requires same-length returns)

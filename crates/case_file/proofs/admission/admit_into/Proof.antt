@@ -1,49 +1,42 @@
--- `admit_into` meets its contract: checks 1 and 2, and then 3 to 9. Assumes nothing.
+-- `admit_into` meets its contract: checks 1 to 5, and then 6 to 9. Assumes nothing.
 use borrow.Author.Needs.{needs}
+use native.Mathlib.Omega.{arith}
 use mathlib.Core.Path.{sym, ap, _∙_}
-use Rattle.definition.proofs.AdmissionLaws.{in-groups, layout-parted}
-use Rattle.definition.proofs.CheckLaws.{then-stops, then-goes-on, all-hold}
-use Rattle.definition.specs.11-Layout.{layoutChecks}
+use Rattle.definition.proofs.AdmissionLaws.{records-last, logged-parted}
+use Rattle.definition.proofs.CheckLaws.{then-stops, then-goes-on}
 use Rattle.words.specs.Meanings.{failureMeant}
-use Rattle.case_file.specs.AdmissionRuns.{beforeLog, fromLog, fromBook}
-use Rattle.case_file.proofs.AdmissionBranches.{none-entered, as-entered}
+use Rattle.case_file.proofs.Laws.{logged-booked}
 use Rattle.case_file.proofs.admission.admit_into.Statement.{statement}
 use Rattle.case_file.proofs.admission.admit_into.Tie as tie
 
-check-layout-requires : tie.Need-check-layout-requires
-check-layout-requires c κs = search needs
+admit-log-requires : tie.Need-admit-log-requires
+admit-log-requires c κs = search needs
 
-enum-known-layout : tie.Need-enum-known-layout
-enum-known-layout c = search needs
+enum-known-log : tie.Need-enum-known-log
+enum-known-log c = search needs
 
 enum-told : tie.Need-enum-told
 enum-told c = search needs
 
-admit-parts-requires : tie.Need-admit-parts-requires
+part-requires : tie.Need-part-requires
 unfolding failureMeant
-admit-parts-requires c κs =
-    let ok = sym (ap failureMeant (c .before .enum-told .given .1)) ∙ c .before .before .before .check-layout .ensures in
-    (layout-parted (all-hold (layoutChecks _) (sym ok)), c .before .before .before .before .before .pre)
+part-requires c κs = (logged-parted _ (sym (c .before .before .admit-log .ensures .0) ∙ ap failureMeant (c .enum-told .given .1)), omega arith)
+
+check-records-requires : tie.Need-check-records-requires
+unfolding failureMeant
+check-records-requires c κs = logged-booked _ (sym (c .before .before .before .admit-log .ensures .0) ∙ ap failureMeant (c .before .enum-told .given .1)) (c .part .ensures)
 
 returns : tie.Need-returns
-unfolding failureMeant beforeLog
+unfolding failureMeant
 returns c =
-    let no = sym (ap failureMeant (c .before .layout .given .1)) ∙ c .before .before .before .check-layout .ensures in
-    (then-stops _ no ∙ sym (in-groups _), none-entered _ _ (then-stops _ no))
+    let log = c .before .before .before .admit-log .ensures in
+    (then-stops _ (sym (ap failureMeant (c .before .log .given .1)) ∙ log .0) ∙ sym (records-last _), log .1)
 
 returns-2 : tie.Need-returns-2
-unfolding failureMeant beforeLog fromLog fromBook
+unfolding failureMeant
 returns-2 c =
-    let ok = sym (ap failureMeant (c .before .before .enum-told .given .1)) ∙ c .before .before .before .before .check-layout .ensures in
-    (c .admit-parts .ensures .0 ∙ then-goes-on ok ∙ sym (in-groups _), as-entered _ (then-goes-on ok) (c .admit-parts .ensures .1))
+    let log = c .before .before .before .before .admit-log .ensures in
+    (c .check-records .ensures ∙ then-goes-on (sym (ap failureMeant (c .before .before .enum-told .given .1)) ∙ log .0) ∙ sym (records-last _), log .1)
 
 pub admit-into-spec : {M : Type 1} → statement M
-admit-into-spec =
-    tie.close
-    (tie.spec
-    check-layout-requires
-    enum-known-layout
-    enum-told
-    admit-parts-requires
-    returns
-    returns-2)
+admit-into-spec = tie.close (tie.spec admit-log-requires enum-known-log enum-told part-requires check-records-requires returns returns-2)

@@ -1,29 +1,35 @@
 -- `closed_action` meets its contract. Assumes nothing.
 use borrow.Author.Tests.{lt-leb, le-leb}
+use Rattle.definition.specs.14-Book.{bookRows}
 use Rattle.case_file.proofs.NumberAnswers.{actions, row-good, row-inside, not-beyond, not-other, by-test}
 use Rattle.case_file.proofs.formula_numbers.closed_action.Statement.{statement}
 use Rattle.case_file.proofs.formula_numbers.closed_action.Tie as tie
 
 returns : tie.Need-returns
-returns c = not-beyond _ _ _ (c .before .before .pre) actions _ (c .if1 .taken)
+unfolding bookRows
+returns c = not-beyond _ _ (c .before .before .pre) actions _ (c .if1 .taken)
 
 row-at-requires : tie.Need-row-at-requires
-row-at-requires c κs = row-inside _ _ _ (c .before .before .pre) (c .if1 .left)
+unfolding bookRows
+row-at-requires c κs = row-inside _ _ (c .before .before .pre) (c .if1 .left)
 
 returns-2 : tie.Need-returns-2
+unfolding bookRows
 returns-2 c =
     let inside = c .before .before .before in
-    not-other _ _ _ (inside .before .before .pre) actions (inside .if1 .left) _ (c .before .before .row-at .ensures) _ (lt-leb 8 _ (c .if2 .taken))
+    not-other _ _ (inside .before .before .pre) actions (inside .if1 .left) _ (c .before .before .row-at .ensures) _ (lt-leb 8 _ (c .if2 .taken))
 
 is-closed-requires : tie.Need-is-closed-requires
+unfolding bookRows
 is-closed-requires c κs =
     let inside = c .before .before .before in
-    row-good _ _ _ (inside .before .before .pre) (inside .if1 .left)
+    row-good _ _ (inside .before .before .pre) (inside .if1 .left)
 
 returns-3 : tie.Need-returns-3
+unfolding bookRows
 returns-3 c =
     let inside = c .before .before .before .before in
-    by-test _ _ _ (inside .before .before .pre) actions (inside .if1 .left) _ (c .before .before .before .row-at .ensures) (le-leb 8 _ (c .before .if2 .left)) (c .is-closed .ensures)
+    by-test _ _ (inside .before .before .pre) actions (inside .if1 .left) _ (c .before .before .before .row-at .ensures) (le-leb 8 _ (c .before .if2 .left)) (c .is-closed .ensures)
 
 pub closed-action-spec : {M : Type 1} → statement M
 closed-action-spec = tie.close (tie.spec returns row-at-requires returns-2 is-closed-requires returns-3)

@@ -1,29 +1,35 @@
 -- `closed_policy` meets its contract. Assumes nothing.
 use borrow.Author.Tests.{le-ltb, lt-ltb}
+use Rattle.definition.specs.14-Book.{bookRows}
 use Rattle.case_file.proofs.NumberAnswers.{policies, row-good, row-inside, not-beyond, not-other, by-test}
 use Rattle.case_file.proofs.formula_numbers.closed_policy.Statement.{statement}
 use Rattle.case_file.proofs.formula_numbers.closed_policy.Tie as tie
 
 returns : tie.Need-returns
-returns c = not-beyond _ _ _ (c .before .before .pre) policies _ (c .if1 .taken)
+unfolding bookRows
+returns c = not-beyond _ _ (c .before .before .pre) policies _ (c .if1 .taken)
 
 row-at-requires : tie.Need-row-at-requires
-row-at-requires c κs = row-inside _ _ _ (c .before .before .pre) (c .if1 .left)
+unfolding bookRows
+row-at-requires c κs = row-inside _ _ (c .before .before .pre) (c .if1 .left)
 
 returns-2 : tie.Need-returns-2
+unfolding bookRows
 returns-2 c =
     let inside = c .before .before .before in
-    not-other _ _ _ (inside .before .before .pre) policies (inside .if1 .left) _ (c .before .before .row-at .ensures) _ (le-ltb _ 8 (c .if2 .taken))
+    not-other _ _ (inside .before .before .pre) policies (inside .if1 .left) _ (c .before .before .row-at .ensures) _ (le-ltb _ 8 (c .if2 .taken))
 
 is-closed-requires : tie.Need-is-closed-requires
+unfolding bookRows
 is-closed-requires c κs =
     let inside = c .before .before .before in
-    row-good _ _ _ (inside .before .before .pre) (inside .if1 .left)
+    row-good _ _ (inside .before .before .pre) (inside .if1 .left)
 
 returns-3 : tie.Need-returns-3
+unfolding bookRows
 returns-3 c =
     let inside = c .before .before .before .before in
-    by-test _ _ _ (inside .before .before .pre) policies (inside .if1 .left) _ (c .before .before .before .row-at .ensures) (lt-ltb _ 8 (c .before .if2 .left)) (c .is-closed .ensures)
+    by-test _ _ (inside .before .before .pre) policies (inside .if1 .left) _ (c .before .before .before .row-at .ensures) (lt-ltb _ 8 (c .before .if2 .left)) (c .is-closed .ensures)
 
 pub closed-policy-spec : {M : Type 1} → statement M
 closed-policy-spec = tie.close (tie.spec returns row-at-requires returns-2 is-closed-requires returns-3)

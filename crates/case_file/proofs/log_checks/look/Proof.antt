@@ -11,24 +11,25 @@ use Rattle.definition.proofs.Tests.{fails, holds}
 use Rattle.formula_rows.specs.Meanings.{sortMeant}
 use Rattle.case_file.specs.Meanings.{listedMeant}
 use Rattle.case_file.proofs.ObserverLists.{Looked, looked-none, looked-low, looked-other, looked-more, looked-end}
-use Rattle.case_file.proofs.SeenTable.{observers-few}
+use Rattle.definition.specs.11-Layout.{recordBytes, recordsIn}
 use Rattle.case_file.proofs.log_checks.look.Statement.{statement}
 use Rattle.case_file.proofs.log_checks.look.Tie as tie
 
 abbrev Inv-loop : tie.InvT-loop
-Inv-loop file agent from len end least₀ seen₀ j₀ least seen j = (j ≤ from + len) × Looked file agent from len least seen j
+Inv-loop observers agent from len end least₀ seen₀ j₀ least seen j = (j ≤ from + len) × Looked observers agent from len least seen j
 
 abbrev μ-loop : tie.MeasureT-loop
-μ-loop file agent from len end least₀ seen₀ j₀ least seen j = end - j
+μ-loop observers agent from len end least₀ seen₀ j₀ least seen j = end - j
 
 add-end : tie.Need-add-end Inv-loop μ-loop
-add-end c = omega (arith, c .before .pre .1, observers-few (c .before .args .file .now) (c .before .pre .0))
+unfolding recordsIn recordBytes
+add-end c = omega (arith, c .before .pre)
 
 loop-holds : tie.Need-loop-holds Inv-loop μ-loop
 loop-holds c = (omega arith, looked-none _ _ _ _)
 
 observer-requires : tie.Need-observer-requires Inv-loop μ-loop
-observer-requires c κs = (c .before .before .before .pre .0, omega (arith, c .before .before .before .pre .1, c .loop-test .taken))
+observer-requires c κs = omega (arith, c .before .before .before .pre, c .loop-test .taken)
 
 cast-if1 : tie.Need-cast-if1 Inv-loop μ-loop
 cast-if1 c = search needs
@@ -60,10 +61,10 @@ add-least : tie.Need-add-least Inv-loop μ-loop
 add-least c = search needs
 
 add-j : tie.Need-add-j Inv-loop μ-loop
+unfolding recordsIn recordBytes
 add-j c =
     let i = c .before .before .before .before .before .before in
-    let p = i .before .before .before .pre in
-    omega (arith, i .loop-test .taken, p .1, observers-few (i .before .before .before .args .file .now) (p .0))
+    omega (arith, i .loop-test .taken, i .before .before .before .pre)
 
 loop-less : tie.Need-loop-less Inv-loop μ-loop
 loop-less c = omega (arith, c .before .before .before .before .before .before .loop-test .taken)
@@ -99,23 +100,4 @@ returns-4 c =
     rw (c .if4 .left) at (looked-end _ _ _ _ (l .least) (l .seen) (l .j) (l .inv .1) (c .before .loop-test .left))
 
 pub look-spec : {M : Type 1} → statement M
-look-spec =
-    tie.close
-    (tie.spec
-    Inv-loop
-    μ-loop
-    add-end
-    loop-holds
-    observer-requires
-    cast-if1
-    returns
-    of-requires
-    is-object-requires
-    returns-2
-    cast-least
-    add-least
-    add-j
-    loop-less
-    loop-again
-    returns-3
-    returns-4)
+look-spec = tie.close (tie.spec Inv-loop μ-loop add-end loop-holds observer-requires cast-if1 returns of-requires is-object-requires returns-2 cast-least add-least add-j loop-less loop-again returns-3 returns-4)

@@ -13,7 +13,7 @@ use Rattle.case_file.proofs.record_checks.bad_audit.Statement.{statemen
 use Rattle.case_file.proofs.record_checks.bad_audit.Tie as tie
 
 agent-of-requires : tie.Need-agent-of-requires
-agent-of-requires c κs = c .before .before .pre .0
+agent-of-requires c κs = c .before .before .pre .parted
 
 returns : tie.Need-returns
 unfolding badAudit
@@ -22,7 +22,7 @@ returns c =
     rw (agent-is t ∙ le-ltb t 16384 (omega (arith, c .before .agent-of .ensures, c .if1 .taken)))
 
 action-of-requires : tie.Need-action-of-requires
-action-of-requires c κs = c .before .before .before .before .pre .0
+action-of-requires c κs = c .before .before .before .before .pre .parted
 
 ground-action-requires : tie.Need-ground-action-requires
 ground-action-requires c κs = search needs
@@ -33,7 +33,7 @@ returns-2 c =
     let start = c .before .before .before .before .before .before in
     let t = agentOf (start .args .file .now) in
     let agent = agent-is t ∙ lt-ltb t 16384 (omega (arith, c .before .before .before .agent-of .ensures, c .before .before .if1 .left)) in
-    ap not (both-second refl agent (c .ground-action .ensures ∙ ap isGroundAction (named (start .pre .1) (c .before .action-of .ensures))))
+    ap not (both-second refl agent (c .ground-action .ensures ∙ ap isGroundAction (named (start .pre) (c .before .action-of .ensures))))
 
 pub bad-audit-spec : {M : Type 1} → statement M
 bad-audit-spec = tie.close (tie.spec agent-of-requires returns action-of-requires ground-action-requires returns-2)

@@ -14,7 +14,7 @@ use Rattle.case_file.proofs.record_checks.bad_condition.Tie as tie
 condition-formula-requires : tie.Need-condition-formula-requires
 condition-formula-requires c κs =
     let pre = c .before .before .pre in
-    (pre .0 .0, pre .1)
+    (pre .0 .parted, pre .1)
 
 returns : tie.Need-returns
 unfolding badCondition
@@ -28,7 +28,7 @@ unfolding badCondition
 returns-2 c =
     let is = c .before .before .condition-formula .ensures in
     let there = ne-eqb _ absent (λ e. c .before .if1 .left (is ∙ e)) in
-    let tree = named (c .before .before .before .before .before .pre .0 .1) is in
+    let tree = named (c .before .before .before .before .before .pre .0) is in
     ap not (either-second refl there (c .ground-predicate .ensures ∙ ap (λ (f : Formula). isPredicate f && ground f) tree))
 
 pub bad-condition-spec : {M : Type 1} → statement M

@@ -36,12 +36,4 @@ unfolding badEntry
 returns-3 c = rw (ne-eqb _ 3 (c .before .before .if1 .left), ne-eqb _ 4 (c .before .if2 .left)) (c .bad-label .ensures)
 
 pub bad-entry-spec : {M : Type 1} → statement M
-bad-entry-spec =
-    tie.close
-    (tie.spec
-    bad-condition-requires
-    returns
-    bad-obligation-requires
-    returns-2
-    bad-label-requires
-    returns-3)
+bad-entry-spec = tie.close (tie.spec bad-condition-requires returns bad-obligation-requires returns-2 bad-label-requires returns-3)

@@ -8,10 +8,10 @@ use Rattle.case_file.proofs.BookOfFile.{named}
 use Rattle.case_file.proofs.record_checks.bad_obligation.Statement.{statement}
 use Rattle.case_file.proofs.record_checks.bad_obligation.Tie as tie
 
-obligation-mark-requires : tie.Need-obligation-mark-requires
-obligation-mark-requires c κs =
+obligation-at-requires : tie.Need-obligation-at-requires
+obligation-at-requires c κs =
     let pre = c .before .before .pre in
-    (pre .0 .0, pre .1)
+    (pre .0 .parted, pre .1)
 
 is-duty-requires : tie.Need-is-duty-requires
 is-duty-requires c κs = search needs
@@ -19,12 +19,7 @@ is-duty-requires c κs = search needs
 returns : tie.Need-returns
 unfolding badObligation
 returns c =
-    rw (ap isDuty (sym (c .before .before .obligation-mark .ensures)) ∙ fails (c .before .is-duty .ensures) (c .if1 .taken))
-
-obligation-action-requires : tie.Need-obligation-action-requires
-obligation-action-requires c κs =
-    let pre = c .before .before .before .before .before .pre in
-    (pre .0 .0, pre .1)
+    rw (ap isDuty (sym (c .before .before .obligation-at .ensures .mark)) ∙ fails (c .before .is-duty .ensures) (c .if1 .taken))
 
 ground-action-requires : tie.Need-ground-action-requires
 ground-action-requires c κs = search needs
@@ -32,18 +27,11 @@ ground-action-requires c κs = search needs
 returns-2 : tie.Need-returns-2
 unfolding badObligation
 returns-2 c =
-    let first = c .before .before .before .before in
-    let mark = ap isDuty (sym (first .obligation-mark .ensures)) ∙ holds (c .before .before .before .is-duty .ensures) (c .before .before .if1 .left) in
-    let tree = named (first .before .before .before .pre .0 .1) (c .before .obligation-action .ensures) in
+    let first = c .before .before .before in
+    let is = first .obligation-at .ensures in
+    let mark = ap isDuty (sym (is .mark)) ∙ holds (c .before .before .is-duty .ensures) (c .before .if1 .left) in
+    let tree = named (first .before .before .before .pre .0) (is .action) in
     ap not (both-second refl mark (c .ground-action .ensures ∙ ap isGroundAction tree))
 
 pub bad-obligation-spec : {M : Type 1} → statement M
-bad-obligation-spec =
-    tie.close
-    (tie.spec
-    obligation-mark-requires
-    is-duty-requires
-    returns
-    obligation-action-requires
-    ground-action-requires
-    returns-2)
+bad-obligation-spec = tie.close (tie.spec obligation-at-requires is-duty-requires returns ground-action-requires returns-2)

@@ -40,9 +40,9 @@ first-bad-requires c κs = search needs
 count-of-requires : tie.Need-count-of-requires
 count-of-requires c κs = search needs
 
-cast-t9 : tie.Need-cast-t9
+cast-t8 : tie.Need-cast-t8
 unfolding mostRecords
-cast-t9 c = omega (arith, c .if1 .taken, c .before .count-of .ensures .0, part-few _ (c .before .before .before .before .before .pre .0) condition-part (omega arith))
+cast-t8 c = omega (arith, c .if1 .taken, c .before .count-of .ensures .0, part-few _ (c .before .before .before .before .before .pre .parted) condition-part (omega arith))
 
 returns : tie.Need-returns
 unfolding failureMeant recordChecks badEntry
@@ -54,9 +54,9 @@ first-bad-requires-2 c κs = search needs
 count-of-requires-2 : tie.Need-count-of-requires-2
 count-of-requires-2 c κs = search needs
 
-cast-t10 : tie.Need-cast-t10
+cast-t9 : tie.Need-cast-t9
 unfolding mostRecords
-cast-t10 c = omega (arith, c .if2 .taken, c .before .count-of2 .ensures .0, part-few _ (start-6 (c .before .before .before) .pre .0) obligation-part (omega arith))
+cast-t9 c = omega (arith, c .if2 .taken, c .before .count-of2 .ensures .0, part-few _ (start-6 (c .before .before .before) .pre .parted) obligation-part (omega arith))
 
 returns-2 : tie.Need-returns-2
 unfolding failureMeant recordChecks badEntry
@@ -70,9 +70,9 @@ first-bad-requires-3 c κs = search needs
 count-of-requires-3 : tie.Need-count-of-requires-3
 count-of-requires-3 c κs = search needs
 
-cast-t11 : tie.Need-cast-t11
+cast-t10 : tie.Need-cast-t10
 unfolding mostRecords
-cast-t11 c = omega (arith, c .if3 .taken, c .before .count-of3 .ensures .0, part-few _ (start-7 (c .before .before .before) .pre .0) label-part (omega arith))
+cast-t10 c = omega (arith, c .if3 .taken, c .before .count-of3 .ensures .0, part-few _ (start-7 (c .before .before .before) .pre .parted) label-part (omega arith))
 
 returns-3 : tie.Need-returns-3
 unfolding failureMeant recordChecks badEntry
@@ -100,21 +100,4 @@ returns-5 c =
     sym (hold-all _ (hold-6 (d .before .before .before), (hold-7 d, (hold-8 b, (sym (c .before .bad-audit .ensures) ∙ c .if4 .left, tt)))))
 
 pub check-records-spec : {M : Type 1} → statement M
-check-records-spec =
-    tie.close
-    (tie.spec
-    first-bad-requires
-    count-of-requires
-    cast-t9
-    returns
-    first-bad-requires-2
-    count-of-requires-2
-    cast-t10
-    returns-2
-    first-bad-requires-3
-    count-of-requires-3
-    cast-t11
-    returns-3
-    bad-audit-requires
-    returns-4
-    returns-5)
+check-records-spec = tie.close (tie.spec first-bad-requires count-of-requires cast-t8 returns first-bad-requires-2 count-of-requires-2 cast-t9 returns-2 first-bad-requires-3 count-of-requires-3 cast-t10 returns-3 bad-audit-requires returns-4 returns-5)

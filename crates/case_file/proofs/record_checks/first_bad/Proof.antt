@@ -11,13 +11,13 @@ use Rattle.case_file.proofs.record_checks.first_bad.Statement.{statemen
 use Rattle.case_file.proofs.record_checks.first_bad.Tie as tie
 
 abbrev Inv-loop : tie.InvT-loop
-Inv-loop file book formulas p n k₀ k = Passed (badEntry file (formulasOf file) p) (count file p) k
+Inv-loop file book p n k₀ k = Passed (badEntry file (formulasOf file) p) (count file p) k
 
 abbrev μ-loop : tie.MeasureT-loop
-μ-loop file book formulas p n k₀ k = n - k
+μ-loop file book p n k₀ k = n - k
 
 count-of-requires : tie.Need-count-of-requires Inv-loop μ-loop
-count-of-requires c κs = let p = c .before .before .pre in (p .0 .0, omega (arith, p .1 .1))
+count-of-requires c κs = let p = c .before .before .pre in (p .0 .parted, omega (arith, p .1 .1))
 
 loop-holds : tie.Need-loop-holds Inv-loop μ-loop
 loop-holds c = passed-start _ _
@@ -51,16 +51,4 @@ returns-2 c =
     n ∙ passed-all _ _ (c .before .loop .inv) (omega (arith, n, c .loop-test .left))
 
 pub first-bad-spec : {M : Type 1} → statement M
-first-bad-spec =
-    tie.close
-    (tie.spec
-    Inv-loop
-    μ-loop
-    count-of-requires
-    loop-holds
-    bad-entry-requires
-    returns
-    add-k
-    loop-less
-    loop-again
-    returns-2)
+first-bad-spec = tie.close (tie.spec Inv-loop μ-loop count-of-requires loop-holds bad-entry-requires returns add-k loop-less loop-again returns-2)

@@ -35,15 +35,4 @@ unfolding dueOffset end
 returns-2 c = rw (ne-eqb _ 0 (c .before .before .if1 .left), c .before .part-offset .ensures, c .part-size .ensures)
 
 pub due-offset-spec : {M : Type 1} → statement M
-due-offset-spec =
-    tie.close
-    (tie.spec
-    returns
-    sub-part-offset
-    part-offset-requires
-    cast-result
-    sub-part-size
-    part-size-requires
-    cast-result-2
-    add-result
-    returns-2)
+due-offset-spec = tie.close (tie.spec returns sub-part-offset part-offset-requires cast-result sub-part-size part-size-requires cast-result-2 add-result returns-2)

@@ -33,15 +33,4 @@ returns-5 : tie.Need-returns-5
 returns-5 c = never-faulty _ _ (sym (c .before .before .before .misplaced .ensures) ∙ c .before .before .if1 .left) (c .before .if2 .left) (c .if4 .left)
 
 pub faulty-part-spec : {M : Type 1} → statement M
-faulty-part-spec =
-    tie.close
-    (tie.spec
-    misplaced-requires
-    returns
-    goes-on-requires
-    returns-2
-    has-orphans-requires
-    returns-3
-    has-orphans-requires-2
-    returns-4
-    returns-5)
+faulty-part-spec = tie.close (tie.spec misplaced-requires returns goes-on-requires returns-2 has-orphans-requires returns-3 has-orphans-requires-2 returns-4 returns-5)

@@ -37,15 +37,4 @@ returns-2 : tie.Need-returns-2 Inv-loop μ-loop
 returns-2 c = passed-all _ _ (c .before .loop .inv) (c .loop-test .left)
 
 pub first-faulty-spec : {M : Type 1} → statement M
-first-faulty-spec =
-    tie.close
-    (tie.spec
-    Inv-loop
-    μ-loop
-    loop-holds
-    faulty-part-requires
-    returns
-    add-p
-    loop-less
-    loop-again
-    returns-2)
+first-faulty-spec = tie.close (tie.spec Inv-loop μ-loop loop-holds faulty-part-requires returns add-p loop-less loop-again returns-2)

@@ -48,20 +48,4 @@ returns-4 : tie.Need-returns-4
 returns-4 c = beyond _ _ _ _ _ _ _ (c .before .before .before .before .before .before .before .part-offset .ensures) (c .before .before .before .before .before .before .part-size .ensures) (c .before .before .before .before .before .record-bytes .ensures) (c .before .before .before .before .due-offset .ensures) (c .before .before .before .if1 .left) (c .before .before .if2 .left) (c .before .most-records .ensures) (c .if3 .left)
 
 pub misplaced-spec : {M : Type 1} → statement M
-misplaced-spec =
-    tie.close
-    (tie.spec
-    part-offset-requires
-    cast-from
-    part-size-requires
-    cast-bytes
-    record-bytes-requires
-    due-offset-requires
-    returns
-    rem-if2
-    returns-2
-    most-records-requires
-    div-if3
-    returns-3
-    add-result
-    returns-4)
+misplaced-spec = tie.close (tie.spec part-offset-requires cast-from part-size-requires cast-bytes record-bytes-requires due-offset-requires returns rem-if2 returns-2 most-records-requires div-if3 returns-3 add-result returns-4)

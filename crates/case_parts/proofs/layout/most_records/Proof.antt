@@ -44,15 +44,4 @@ unfolding mostRecords
 returns-9 c = sym (List·getD-eq-default (1024 ∷ 1024 ∷ 4096 ∷ 64 ∷ 64 ∷ 32 ∷ 2048 ∷ 2048 ∷ []) 0 (past _ 8 (c .before .args .p) (c .match .rest)))
 
 pub most-records-spec : {M : Type 1} → statement M
-most-records-spec =
-    tie.close
-    (tie.spec
-    returns
-    returns-2
-    returns-3
-    returns-4
-    returns-5
-    returns-6
-    returns-7
-    returns-8
-    returns-9)
+most-records-spec = tie.close (tie.spec returns returns-2 returns-3 returns-4 returns-5 returns-6 returns-7 returns-8 returns-9)

@@ -36,15 +36,4 @@ returns : tie.Need-returns
 returns c = part-is _ _ _ _ (c .before .before .part-offset .ensures) (c .before .part-size .ensures)
 
 pub part-spec : {M : Type 1} → statement M
-part-spec =
-    tie.close
-    (tie.spec
-    part-offset-requires
-    cast-from
-    part-size-requires
-    cast-bytes
-    add-result
-    sub-result
-    part-result-start
-    part-result-end
-    returns)
+part-spec = tie.close (tie.spec part-offset-requires cast-from part-size-requires cast-bytes add-result sub-result part-result-start part-result-end returns)

@@ -37,14 +37,4 @@ unfolding failureMeant
 returns-2 c = answered-admitted _ _ _ _ (sym (ap failureMeant (c .before .before .before .before .before .before .enum-told .given .1)) ∙ c .before .before .before .before .before .before .before .before .admit-into .ensures .0) (c .before .before .check-admitted .ensures)
 
 pub check-spec : {M : Type 1} → statement M
-check-spec =
-    tie.close
-    (tie.spec
-    admit-into-requires
-    enum-known-admission
-    enum-told
-    part-requires
-    check-admitted-requires
-    returns
-    same-length
-    returns-2)
+check-spec = tie.close (tie.spec admit-into-requires enum-known-admission enum-told part-requires check-admitted-requires returns same-length returns-2)

@@ -16,7 +16,7 @@ use Rattle.checker.proofs.checks.check_steps.Statement.{statement}
 use Rattle.checker.proofs.checks.check_steps.Tie as tie
 
 abbrev start : tie.After-run-steps → tie.Start
-start r = r .before .before .before .before .before .before .before .before
+start r = r .before .before .before .before .before .before .before
 
 -- What the steps come to, from the first state; and the state behind them.
 run-is : (r : tie.After-run-steps) {f : Failure} → r .run-steps .result ≡ f → failureMeant f ≡ inOrder (checksOfSteps (caseOf (start r .args .file .now)) (caseOf (start r .args .file .now) .steps) 0 startState)
@@ -26,7 +26,7 @@ run-is r told =
 
 state-is :
     (r : tie.After-run-steps) →
-    stateOf (r .run-steps .last .1 .1 .1 .0) (r .run-steps .last .1 .1 .1 .1 .0) (r .run-steps .last .1 .1 .1 .1 .1 .0) (r .run-steps .last .1 .1 .1 .1 .1 .1 .0)
+    stateOf (r .run-steps .last .1 .1 .1 .0) (r .run-steps .last .1 .1 .1 .1 .0) (r .run-steps .last .1 .1 .1 .1 .1 .0)
     ≡ afterRun (caseOf (start r .args .file .now)) (caseOf (start r .args .file .now) .steps) 0 startState
 state-is r =
     let c = caseOf (start r .args .file .now) in
@@ -47,18 +47,12 @@ slice-aggregate-conclude c = search needs
 slice-aggregate-conclude-2 : tie.Need-slice-aggregate-conclude-2
 slice-aggregate-conclude-2 c = search needs
 
-slice-aggregate-conclude-3 : tie.Need-slice-aggregate-conclude-3
-slice-aggregate-conclude-3 c = search needs
-
-slice-aggregate-conclude-4 : tie.Need-slice-aggregate-conclude-4
-slice-aggregate-conclude-4 c = search needs
-
 conclude-requires : tie.Need-conclude-requires
 unfolding failureMeant
 conclude-requires c κs =
-    let r = c .before .before .before .before .before .before .before in
+    let r = c .before .before .before .before .before .before in
     let pre = start r .pre in
-    ((pre .0, r .run-steps .ensures .tables), (pre .1, all-numbered (pre .0 .lent) (run-is r (c .before .before .before .before .before .enum-told .given .1))))
+    ((pre .0 .lent, r .run-steps .ensures .tables), (pre .1, all-numbered (pre .0 .lent) (run-is r (c .before .before .before .before .enum-told .given .1))))
 
 returns : tie.Need-returns
 unfolding failureMeant
@@ -74,23 +68,10 @@ same-length c = search needs
 returns-2 : tie.Need-returns-2
 unfolding failureMeant
 returns-2 c =
-    let r = c .before .before .before .before .before .before .before .before .before .before in
+    let r = c .before .before .before .before .before .before .before .before .before in
     let st = start r in
-    let run = run-is r (c .before .before .before .before .before .before .before .before .enum-told .given .1) in
+    let run = run-is r (c .before .before .before .before .before .before .before .enum-told .given .1) in
     reported-as (proof-run (caseOf (st .args .file .now)) (length (st .args .room .now)) _ run (state-is r)) (c .before .before .conclude .ensures)
 
 pub check-steps-spec : {M : Type 1} → statement M
-check-steps-spec =
-    tie.close
-    (tie.spec
-    run-steps-requires
-    enum-known-ran
-    enum-told
-    slice-aggregate-conclude
-    slice-aggregate-conclude-2
-    slice-aggregate-conclude-3
-    slice-aggregate-conclude-4
-    conclude-requires
-    returns
-    same-length
-    returns-2)
+check-steps-spec = tie.close (tie.spec run-steps-requires enum-known-ran enum-told slice-aggregate-conclude slice-aggregate-conclude-2 conclude-requires returns same-length returns-2)

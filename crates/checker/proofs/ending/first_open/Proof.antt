@@ -38,16 +38,4 @@ returns-2 : tie.Need-returns-2 Inv-loop μ-loop
 returns-2 c = passed-all _ _ (c .before .loop .inv) (c .loop-test .left)
 
 pub first-open-spec : {M : Type 1} → statement M
-first-open-spec =
-    tie.close
-    (tie.spec
-    Inv-loop
-    μ-loop
-    loop-holds
-    cast-has
-    has-requires
-    returns
-    add-l
-    loop-less
-    loop-again
-    returns-2)
+first-open-spec = tie.close (tie.spec Inv-loop μ-loop loop-holds cast-has has-requires returns add-l loop-less loop-again returns-2)

@@ -2,15 +2,14 @@
 use borrow.Author.Needs.{needs}
 use native.Mathlib.Omega.{arith}
 use Prim.Native.Nat.{ℕ, _<_}
-use mathlib.Core.Path.{_≡_, refl, sym, _∙_}
+use mathlib.Core.Path.{_≡_}
 use borrow.Author.Tests.{not-true, not-false}
-use Rattle.definition.proofs.Tests.{both-first, both-second}
-use Rattle.definition.specs.13-Formulas.{isPolicy, isAction, same, put}
-use Rattle.definition.specs.14-Book.{treeIn, book, bookRows}
-use Rattle.formula_rows.specs.Meanings.{sortMeant, rowMeant, nodeMeant}
+use Rattle.definition.specs.13-Formulas.{isPolicy, isAction}
+use Rattle.definition.specs.14-Book.{bookRows}
+use Rattle.formula_rows.specs.Meanings.{sortMeant, nodeMeant}
 use Rattle.formula_rows.specs.declared.nodes.Node as nodes
-use Rattle.formula_walks.proofs.InstanceLaws.{instNode, Arm, in-arm, answer, arm-of-action, said-both, first-both, second-both, body-both, action-both, policy-both, Ahead, ahead-all, ahead-more}
-use Rattle.formula_walks.proofs.WalkLaws.{called}
+use Rattle.formula_walks.proofs.InstanceArms.{Ahead, ahead-all, Arm, in-arm, arm-of-action, calls-first, calls-last, differ-before, same-last, last-lower, ahead-last, leaf-same, body-lower, ahead-body, none-same}
+use Rattle.formula_walks.proofs.WalkLaws.{said-parts, pair-parts, duty-parts}
 use borrow.Fn.Kinds.{In}
 use borrow.Fn.PlainCycle.{Measures, is, falls, and}
 use Rattle.formula_walks.proofs.instances.action_instance.Reads as action-instance
@@ -65,7 +64,7 @@ policy-instance-below t =
     policy-instance.Pre
 
 abbrev policy-instance-Inv-loop : policy-instance-lts.InvT-loop
-policy-instance-Inv-loop book sort term depth body row from₀ to₀ under₀ from to under = Ahead (sortMeant sort) term book body row depth from to under
+policy-instance-Inv-loop book sort term depth body row from₀ to₀ under₀ from to under = Ahead isPolicy (sortMeant sort) term book body row depth from to under
 
 abbrev policy-instance-μ-loop : policy-instance-lts.MeasureT-loop
 policy-instance-μ-loop book sort term depth body row from₀ to₀ under₀ from to under = from
@@ -78,8 +77,12 @@ of-policy-instance t = (row-at-reads.Asked, row-at-reads.Learnt, common-node-rea
 
 module _ (t : ℕ) where
   -- the arm that the walk is in, once it has read both rows
-  action-arm : (w : action-instance-lts.After-common-node (of-action-instance t) (action-instance-at t) action-instance.Post) {m : nodes.Node} → w .common-node .result ≡ m → Arm isAction (w .before .before .before .before .args .book .now) (w .before .before .before .before .args .body) (w .before .before .before .before .args .row) (w .before .before .before .before .args .depth) (w .before .before .row-at .result) (nodeMeant m)
-  action-arm w p = in-arm (w .before .before .before .before .pre .1 .0) (w .before .before .before .before .pre .1 .1) (w .before .row-at2 .result) (w .before .before .row-at .result) (w .before .row-at2 .ensures) (w .before .before .row-at .ensures) (w .common-node .ensures) p
+  action-arm :
+      (k : action-instance-lts.After-common-node (of-action-instance t) (action-instance-at t) action-instance.Post) {m : nodes.Node} → k .common-node .result ≡ m →
+      Arm isAction (sortMeant (k .before .before .before .before .args .sort)) (k .before .before .before .before .args .term) (k .before .before .before .before .args .book .now) t (k .before .before .before .before .args .body) (k .before .before .before .before .args .row) (k .before .before .before .before .args .depth) (k .before .before .before .before .args .body) (k .before .before .before .before .args .row) (k .before .before .before .before .args .depth) (k .before .before .row-at .result) m
+  action-arm k e =
+      let p = k .before .before .before .before .pre in
+      in-arm (p .0) (ahead-all (p .1)) (k .before .row-at2 .result) (k .before .before .row-at .result) (k .before .row-at2 .ensures) (k .before .before .row-at .ensures) (k .common-node .ensures) e
 
   action-instance-row-at-requires : action-instance-lts.Need-row-at-requires (of-action-instance t) (action-instance-at t) action-instance.Post
   unfolding bookRows
@@ -113,14 +116,10 @@ module _ (t : ℕ) where
   action-instance-cast-policy-instance-2 c = omega arith
 
   action-instance-policy-instance-requires : action-instance-lts.Need-policy-instance-requires (of-action-instance t) (action-instance-at t) action-instance.Post
-  unfolding nodeMeant
-  action-instance-policy-instance-requires c κs =
-      called (omega (arith, c .before .before .before .before .before .before .before .before .before .before .pre .0)) (said-both (action-arm (c .before .before .before .before .before .before) (c .before .before .before .before .x2 .given .1)))
+  action-instance-policy-instance-requires c κs = calls-last (action-arm (c .before .before .before .before .before .before) (c .before .before .before .before .x2 .given .1)) said-parts
 
   action-instance-returns : action-instance-lts.Need-returns (of-action-instance t) (action-instance-at t) action-instance.Post
-  unfolding nodeMeant rowMeant instNode
-  action-instance-returns c =
-      both-second (c .before .before .before .two-match .ensures) (c .before .before .if1 .taken) (c .policy-instance .ensures) ∙ sym (answer (action-arm (c .before .before .before .before .before .before .before) (c .before .before .before .before .before .x2 .given .1)) (sortMeant (c .before .before .before .before .before .before .before .before .before .before .before .args .sort)) (c .before .before .before .before .before .before .before .before .before .before .before .args .term))
+  action-instance-returns c = same-last (action-arm (c .before .before .before .before .before .before .before) (c .before .before .before .before .before .x2 .given .1)) said-parts (c .before .before .before .two-match .ensures) (c .before .before .if1 .taken) (c .policy-instance .ensures)
 
   action-instance-enum-told : action-instance-lts.Need-enum-told (of-action-instance t) (action-instance-at t) action-instance.Post
   action-instance-enum-told c = search needs
@@ -135,51 +134,31 @@ module _ (t : ℕ) where
   action-instance-enum-told-4 c = search needs
 
   action-instance-returns-2 : action-instance-lts.Need-returns-2 (of-action-instance t) (action-instance-at t) action-instance.Post
-  unfolding nodeMeant rowMeant instNode
-  action-instance-returns-2 c =
-      c .three-match .ensures ∙ sym (answer (action-arm (c .before .before .before .before) (c .before .before .x .given .1)) (sortMeant (c .before .before .before .before .before .before .before .before .args .sort)) (c .before .before .before .before .before .before .before .before .args .term))
+  action-instance-returns-2 c = leaf-same (action-arm (c .before .before .before .before) (c .before .before .x .given .1)) (c .three-match .ensures)
 
   action-instance-returns-3 : action-instance-lts.Need-returns-3 (of-action-instance t) (action-instance-at t) action-instance.Post
-  unfolding nodeMeant rowMeant instNode
-  action-instance-returns-3 c =
-      both-first _ (c .before .two-match .ensures) (c .if1 .left) ∙ sym (answer (action-arm (c .before .before .before .before .before) (c .before .before .before .x2 .given .1)) (sortMeant (c .before .before .before .before .before .before .before .before .before .args .sort)) (c .before .before .before .before .before .before .before .before .before .args .term))
+  action-instance-returns-3 c = differ-before (action-arm (c .before .before .before .before .before) (c .before .before .before .x2 .given .1)) said-parts (c .before .two-match .ensures) (c .if1 .left)
 
   action-instance-returns-4 : action-instance-lts.Need-returns-4 (of-action-instance t) (action-instance-at t) action-instance.Post
   unfolding nodeMeant
-  action-instance-returns-4 c =
-      absurd (arm-of-action (action-arm (c .before .before) (c .enum-told .given .1)) tt)
+  action-instance-returns-4 c = absurd (arm-of-action (action-arm (c .before .before) (c .enum-told .given .1)) tt)
 
   action-instance-returns-5 : action-instance-lts.Need-returns-5 (of-action-instance t) (action-instance-at t) action-instance.Post
   unfolding nodeMeant
-  action-instance-returns-5 c =
-      absurd (arm-of-action (action-arm (c .before .before) (c .enum-told2 .given .1)) tt)
+  action-instance-returns-5 c = absurd (arm-of-action (action-arm (c .before .before) (c .enum-told2 .given .1)) tt)
 
   action-instance-returns-6 : action-instance-lts.Need-returns-6 (of-action-instance t) (action-instance-at t) action-instance.Post
   unfolding nodeMeant
-  action-instance-returns-6 c =
-      absurd (arm-of-action (action-arm (c .before .before) (c .enum-told3 .given .1)) tt)
+  action-instance-returns-6 c = absurd (arm-of-action (action-arm (c .before .before) (c .enum-told3 .given .1)) tt)
 
   action-instance-returns-7 : action-instance-lts.Need-returns-7 (of-action-instance t) (action-instance-at t) action-instance.Post
-  unfolding nodeMeant rowMeant instNode
-  action-instance-returns-7 c =
-      sym (answer (action-arm (c .before .before) (c .enum-told4 .given .1)) (sortMeant (c .before .before .before .before .before .before .args .sort)) (c .before .before .before .before .before .before .args .term))
+  action-instance-returns-7 c = none-same (action-arm (c .before .before) (c .enum-told4 .given .1))
 
-  abbrev Read : Type 0
-  Read = policy-instance-lts.After-common-node (of-policy-instance t) (policy-instance-at t) policy-instance.Post policy-instance-Inv-loop policy-instance-μ-loop
-
-  -- the arm that the walk is in, once it has read both rows, and what it says of the two policies
   policy-arm :
-      (w : Read) {m : nodes.Node} → w .common-node .result ≡ m →
-      Arm isPolicy (w .before .before .before .before .before .args .book .now) (w .before .before .before .loop .from) (w .before .before .before .loop .to) (w .before .before .before .loop .under) (w .before .before .row-at .result) (nodeMeant m)
-  policy-arm w p =
-      let a = w .before .before .before .loop .inv in
-      in-arm (a .first) (a .second) (w .before .row-at2 .result) (w .before .before .row-at .result) (w .before .row-at2 .ensures) (w .before .before .row-at .ensures) (w .common-node .ensures) p
-
-  says-arm :
-      (w : Read) {m : nodes.Node} → w .common-node .result ≡ m →
-      instNode (sortMeant (w .before .before .before .before .before .args .sort)) (w .before .before .before .before .before .args .term) (w .before .before .before .loop .under) (book (w .before .before .before .before .before .args .book .now)) (rowMeant (w .before .before .row-at .result)) (nodeMeant m)
-      ≡ same (treeIn (book (w .before .before .before .before .before .args .book .now)) (w .before .before .before .loop .to)) (put (sortMeant (w .before .before .before .before .before .args .sort)) (w .before .before .before .before .before .args .term) (w .before .before .before .loop .under) (treeIn (book (w .before .before .before .before .before .args .book .now)) (w .before .before .before .loop .from)))
-  says-arm w p = sym (answer (policy-arm w p) _ _)
+      (k : policy-instance-lts.After-common-node (of-policy-instance t) (policy-instance-at t) policy-instance.Post policy-instance-Inv-loop policy-instance-μ-loop) {m : nodes.Node} → k .common-node .result ≡ m →
+      Arm isPolicy (sortMeant (k .before .before .before .before .before .args .sort)) (k .before .before .before .before .before .args .term) (k .before .before .before .before .before .args .book .now) t (k .before .before .before .before .before .args .body) (k .before .before .before .before .before .args .row) (k .before .before .before .before .before .args .depth) (k .before .before .before .loop .from) (k .before .before .before .loop .to) (k .before .before .before .loop .under) (k .before .before .row-at .result) m
+  policy-arm k e =
+      in-arm (k .before .before .before .before .before .pre .0) (k .before .before .before .loop .inv) (k .before .row-at2 .result) (k .before .before .row-at .result) (k .before .row-at2 .ensures) (k .before .before .row-at .ensures) (k .common-node .ensures) e
 
   policy-instance-loop-holds : policy-instance-lts.Need-loop-holds (of-policy-instance t) (policy-instance-at t) policy-instance.Post policy-instance-Inv-loop policy-instance-μ-loop
   policy-instance-loop-holds c = ahead-all (c .before .pre .1)
@@ -204,10 +183,7 @@ module _ (t : ℕ) where
   policy-instance-three-match-requires c κs = search needs
 
   policy-instance-returns : policy-instance-lts.Need-returns (of-policy-instance t) (policy-instance-at t) policy-instance.Post policy-instance-Inv-loop policy-instance-μ-loop
-  unfolding nodeMeant rowMeant instNode
-  policy-instance-returns c =
-      let k = c .before .before in
-      c .three-match .ensures ∙ says-arm (k .before .before) (k .x .given .1) ∙ k .before .before .before .before .before .loop .inv .whole
+  policy-instance-returns c = leaf-same (policy-arm (c .before .before .before .before) (c .before .before .x .given .1)) (c .three-match .ensures)
 
   policy-instance-enum-known-x-2 : policy-instance-lts.Need-enum-known-x-2 (of-policy-instance t) (policy-instance-at t) policy-instance.Post policy-instance-Inv-loop policy-instance-μ-loop
   policy-instance-enum-known-x-2 c = search needs
@@ -216,10 +192,7 @@ module _ (t : ℕ) where
   policy-instance-two-match-requires c κs = search needs
 
   policy-instance-returns-2 : policy-instance-lts.Need-returns-2 (of-policy-instance t) (policy-instance-at t) policy-instance.Post policy-instance-Inv-loop policy-instance-μ-loop
-  unfolding nodeMeant rowMeant instNode
-  policy-instance-returns-2 c =
-      let k = c .before .before .before in
-      both-first _ (c .before .two-match .ensures) (not-true _ (c .if1 .taken)) ∙ says-arm (k .before .before) (k .x2 .given .1) ∙ k .before .before .before .before .before .loop .inv .whole
+  policy-instance-returns-2 c = differ-before (policy-arm (c .before .before .before .before .before) (c .before .before .before .x2 .given .1)) said-parts (c .before .two-match .ensures) (not-true _ (c .if1 .taken))
 
   policy-instance-cast-from : policy-instance-lts.Need-cast-from (of-policy-instance t) (policy-instance-at t) policy-instance.Post policy-instance-Inv-loop policy-instance-μ-loop
   policy-instance-cast-from c = omega arith
@@ -228,17 +201,10 @@ module _ (t : ℕ) where
   policy-instance-cast-to c = omega arith
 
   policy-instance-loop-less : policy-instance-lts.Need-loop-less (of-policy-instance t) (policy-instance-at t) policy-instance.Post policy-instance-Inv-loop policy-instance-μ-loop
-  unfolding nodeMeant
-  policy-instance-loop-less c =
-      let k = c .before .before .before .before in
-      said-both (policy-arm (k .before .before) (k .x2 .given .1)) .0
+  policy-instance-loop-less c = last-lower (policy-arm (c .before .before .before .before .before .before) (c .before .before .before .before .x2 .given .1)) said-parts
 
   policy-instance-loop-again : policy-instance-lts.Need-loop-again (of-policy-instance t) (policy-instance-at t) policy-instance.Post policy-instance-Inv-loop policy-instance-μ-loop
-  unfolding nodeMeant rowMeant instNode
-  policy-instance-loop-again c =
-      let k = c .before .before .before .before in
-      ahead-more (k .before .before .before .before .before .loop .inv) (said-both (policy-arm (k .before .before) (k .x2 .given .1)))
-      (both-second (c .before .before .two-match .ensures) (not-false _ (c .before .if1 .left)) refl ∙ says-arm (k .before .before) (k .x2 .given .1))
+  policy-instance-loop-again c = ahead-last (policy-arm (c .before .before .before .before .before .before) (c .before .before .before .before .x2 .given .1)) said-parts (c .before .before .two-match .ensures) (not-false _ (c .before .if1 .left))
 
   policy-instance-enum-known-x-3 : policy-instance-lts.Need-enum-known-x-3 (of-policy-instance t) (policy-instance-at t) policy-instance.Post policy-instance-Inv-loop policy-instance-μ-loop
   policy-instance-enum-known-x-3 c = search needs
@@ -250,17 +216,10 @@ module _ (t : ℕ) where
   policy-instance-cast-policy-instance-2 c = omega arith
 
   policy-instance-policy-instance-requires : policy-instance-lts.Need-policy-instance-requires (of-policy-instance t) (policy-instance-at t) policy-instance.Post policy-instance-Inv-loop policy-instance-μ-loop
-  unfolding nodeMeant
-  policy-instance-policy-instance-requires c κs =
-      let k = c .before .before in
-      let a = k .before .before .before .before .before .loop .inv in
-      called (omega (arith, a .lower, k .before .before .before .before .before .before .before .pre .0)) (first-both (policy-arm (k .before .before) (k .x3 .given .1)))
+  policy-instance-policy-instance-requires c κs = calls-first (policy-arm (c .before .before .before .before) (c .before .before .x3 .given .1)) pair-parts
 
   policy-instance-returns-3 : policy-instance-lts.Need-returns-3 (of-policy-instance t) (policy-instance-at t) policy-instance.Post policy-instance-Inv-loop policy-instance-μ-loop
-  unfolding nodeMeant rowMeant instNode
-  policy-instance-returns-3 c =
-      let k = c .before .before .before .before in
-      both-first _ (c .before .policy-instance .ensures) (not-true _ (c .if2 .taken)) ∙ says-arm (k .before .before) (k .x3 .given .1) ∙ k .before .before .before .before .before .loop .inv .whole
+  policy-instance-returns-3 c = differ-before (policy-arm (c .before .before .before .before .before .before) (c .before .before .before .before .x3 .given .1)) pair-parts (c .before .policy-instance .ensures) (not-true _ (c .if2 .taken))
 
   policy-instance-cast-from-2 : policy-instance-lts.Need-cast-from-2 (of-policy-instance t) (policy-instance-at t) policy-instance.Post policy-instance-Inv-loop policy-instance-μ-loop
   policy-instance-cast-from-2 c = omega arith
@@ -269,17 +228,10 @@ module _ (t : ℕ) where
   policy-instance-cast-to-2 c = omega arith
 
   policy-instance-loop-less-2 : policy-instance-lts.Need-loop-less-2 (of-policy-instance t) (policy-instance-at t) policy-instance.Post policy-instance-Inv-loop policy-instance-μ-loop
-  unfolding nodeMeant
-  policy-instance-loop-less-2 c =
-      let k = c .before .before .before .before .before in
-      second-both (policy-arm (k .before .before) (k .x3 .given .1)) .0
+  policy-instance-loop-less-2 c = last-lower (policy-arm (c .before .before .before .before .before .before .before) (c .before .before .before .before .before .x3 .given .1)) pair-parts
 
   policy-instance-loop-again-2 : policy-instance-lts.Need-loop-again-2 (of-policy-instance t) (policy-instance-at t) policy-instance.Post policy-instance-Inv-loop policy-instance-μ-loop
-  unfolding nodeMeant rowMeant instNode
-  policy-instance-loop-again-2 c =
-      let k = c .before .before .before .before .before in
-      ahead-more (k .before .before .before .before .before .loop .inv) (second-both (policy-arm (k .before .before) (k .x3 .given .1)))
-      (both-second (c .before .before .policy-instance .ensures) (not-false _ (c .before .if2 .left)) refl ∙ says-arm (k .before .before) (k .x3 .given .1))
+  policy-instance-loop-again-2 c = ahead-last (policy-arm (c .before .before .before .before .before .before .before) (c .before .before .before .before .before .x3 .given .1)) pair-parts (c .before .before .policy-instance .ensures) (not-false _ (c .before .if2 .left))
 
   policy-instance-enum-known-x-4 : policy-instance-lts.Need-enum-known-x-4 (of-policy-instance t) (policy-instance-at t) policy-instance.Post policy-instance-Inv-loop policy-instance-μ-loop
   policy-instance-enum-known-x-4 c = search needs
@@ -294,16 +246,10 @@ module _ (t : ℕ) where
   policy-instance-cast-to-3 c = omega arith
 
   policy-instance-loop-less-3 : policy-instance-lts.Need-loop-less-3 (of-policy-instance t) (policy-instance-at t) policy-instance.Post policy-instance-Inv-loop policy-instance-μ-loop
-  unfolding nodeMeant
-  policy-instance-loop-less-3 c =
-      let k = c .before .before in
-      body-both (policy-arm (k .before .before) (k .x4 .given .1)) .0
+  policy-instance-loop-less-3 c = body-lower (policy-arm (c .before .before .before .before) (c .before .before .x4 .given .1))
 
   policy-instance-loop-again-3 : policy-instance-lts.Need-loop-again-3 (of-policy-instance t) (policy-instance-at t) policy-instance.Post policy-instance-Inv-loop policy-instance-μ-loop
-  unfolding nodeMeant rowMeant instNode
-  policy-instance-loop-again-3 c =
-      let k = c .before .before in
-      ahead-more (k .before .before .before .before .before .loop .inv) (body-both (policy-arm (k .before .before) (k .x4 .given .1))) (says-arm (k .before .before) (k .x4 .given .1))
+  policy-instance-loop-again-3 c = ahead-body (policy-arm (c .before .before .before .before) (c .before .before .x4 .given .1))
 
   policy-instance-enum-known-x-5 : policy-instance-lts.Need-enum-known-x-5 (of-policy-instance t) (policy-instance-at t) policy-instance.Post policy-instance-Inv-loop policy-instance-μ-loop
   policy-instance-enum-known-x-5 c = search needs
@@ -315,17 +261,10 @@ module _ (t : ℕ) where
   policy-instance-cast-action-instance-2 c = omega arith
 
   policy-instance-action-instance-requires : policy-instance-lts.Need-action-instance-requires (of-policy-instance t) (policy-instance-at t) policy-instance.Post policy-instance-Inv-loop policy-instance-μ-loop
-  unfolding nodeMeant
-  policy-instance-action-instance-requires c κs =
-      let k = c .before .before in
-      let a = k .before .before .before .before .before .loop .inv in
-      called (omega (arith, a .lower, k .before .before .before .before .before .before .before .pre .0)) (action-both (policy-arm (k .before .before) (k .x5 .given .1)))
+  policy-instance-action-instance-requires c κs = calls-first (policy-arm (c .before .before .before .before) (c .before .before .x5 .given .1)) duty-parts
 
   policy-instance-returns-4 : policy-instance-lts.Need-returns-4 (of-policy-instance t) (policy-instance-at t) policy-instance.Post policy-instance-Inv-loop policy-instance-μ-loop
-  unfolding nodeMeant rowMeant instNode
-  policy-instance-returns-4 c =
-      let k = c .before .before .before .before in
-      both-first _ (c .before .action-instance .ensures) (not-true _ (c .if3 .taken)) ∙ says-arm (k .before .before) (k .x5 .given .1) ∙ k .before .before .before .before .before .loop .inv .whole
+  policy-instance-returns-4 c = differ-before (policy-arm (c .before .before .before .before .before .before) (c .before .before .before .before .x5 .given .1)) duty-parts (c .before .action-instance .ensures) (not-true _ (c .if3 .taken))
 
   policy-instance-cast-from-4 : policy-instance-lts.Need-cast-from-4 (of-policy-instance t) (policy-instance-at t) policy-instance.Post policy-instance-Inv-loop policy-instance-μ-loop
   policy-instance-cast-from-4 c = omega arith
@@ -334,25 +273,16 @@ module _ (t : ℕ) where
   policy-instance-cast-to-4 c = omega arith
 
   policy-instance-loop-less-4 : policy-instance-lts.Need-loop-less-4 (of-policy-instance t) (policy-instance-at t) policy-instance.Post policy-instance-Inv-loop policy-instance-μ-loop
-  unfolding nodeMeant
-  policy-instance-loop-less-4 c =
-      let k = c .before .before .before .before .before in
-      policy-both (policy-arm (k .before .before) (k .x5 .given .1)) .0
+  policy-instance-loop-less-4 c = last-lower (policy-arm (c .before .before .before .before .before .before .before) (c .before .before .before .before .before .x5 .given .1)) duty-parts
 
   policy-instance-loop-again-4 : policy-instance-lts.Need-loop-again-4 (of-policy-instance t) (policy-instance-at t) policy-instance.Post policy-instance-Inv-loop policy-instance-μ-loop
-  unfolding nodeMeant rowMeant instNode
-  policy-instance-loop-again-4 c =
-      let k = c .before .before .before .before .before in
-      ahead-more (k .before .before .before .before .before .loop .inv) (policy-both (policy-arm (k .before .before) (k .x5 .given .1)))
-      (both-second (c .before .before .action-instance .ensures) (not-false _ (c .before .if3 .left)) refl ∙ says-arm (k .before .before) (k .x5 .given .1))
+  policy-instance-loop-again-4 c = ahead-last (policy-arm (c .before .before .before .before .before .before .before) (c .before .before .before .before .before .x5 .given .1)) duty-parts (c .before .before .action-instance .ensures) (not-false _ (c .before .if3 .left))
 
   policy-instance-enum-told : policy-instance-lts.Need-enum-told (of-policy-instance t) (policy-instance-at t) policy-instance.Post policy-instance-Inv-loop policy-instance-μ-loop
   policy-instance-enum-told c = search needs
 
   policy-instance-returns-5 : policy-instance-lts.Need-returns-5 (of-policy-instance t) (policy-instance-at t) policy-instance.Post policy-instance-Inv-loop policy-instance-μ-loop
-  unfolding nodeMeant rowMeant instNode
-  policy-instance-returns-5 c =
-      says-arm (c .before .before) (c .enum-told .given .1) ∙ c .before .before .before .before .before .loop .inv .whole
+  policy-instance-returns-5 c = none-same (policy-arm (c .before .before) (c .enum-told .given .1))
 
 pub +action-instance+policy-instance-spec : {M : Type 1} → statement M
 +action-instance+policy-instance-spec =

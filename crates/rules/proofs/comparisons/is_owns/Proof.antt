@@ -8,7 +8,7 @@ use Rattle.rules.proofs.comparisons.is_owns.Tie as tie
 is-row-requires : tie.Need-is-row-requires
 is-row-requires c κs =
     let pre = c .before .pre in
-    (pre, owns-tells pre (c .before .args .x) (c .before .args .y))
+    (pre, owns-tells (c .before .args .x) (c .before .args .y))
 
 returns : tie.Need-returns
 unfolding treeOf rowMeant

@@ -4,26 +4,21 @@ use Rattle.rules.proofs.CitedFormulas.{obligation-numbered, done-by-obl
 use Rattle.rules.proofs.sixteen.duty_by_obligation.Statement.{statement}
 use Rattle.rules.proofs.sixteen.duty_by_obligation.Tie as tie
 
-obligation-mark-requires : tie.Need-obligation-mark-requires
-obligation-mark-requires c κs =
+obligation-at-requires : tie.Need-obligation-at-requires
+obligation-at-requires c κs =
     let pre = c .before .before .pre in
-    (parted (pre .0 .0), pre .1)
-
-obligation-action-requires : tie.Need-obligation-action-requires
-obligation-action-requires c κs =
-    let pre = c .before .before .before .pre in
     (parted (pre .0 .0), pre .1)
 
 is-after-requires : tie.Need-is-after-requires
 is-after-requires c κs =
-    let pre = c .before .before .before .before .pre in
-    let numbered = obligation-numbered (pre .0 .0) (pre .1) (c .obligation-action .ensures) in
-    (pre .0 .2, numbered, pre .0 .1)
+    let pre = c .before .before .before .pre in
+    (pre .0 .2, obligation-numbered (pre .0 .0) (pre .1) (c .obligation-at .ensures .action), pre .0 .1)
 
 returns : tie.Need-returns
 returns c =
-    let pre = c .before .before .before .before .before .pre in
-    done-by-obligation (pre .0 .0) (pre .1) (c .before .before .obligation-mark .ensures) (c .before .obligation-action .ensures) _ _ (c .is-after .ensures)
+    let pre = c .before .before .before .before .pre in
+    let is = c .before .obligation-at .ensures in
+    done-by-obligation (pre .0 .0) (pre .1) (is .mark) (is .action) _ _ (c .is-after .ensures)
 
 pub duty-by-obligation-spec : {M : Type 1} → statement M
-duty-by-obligation-spec = tie.close (tie.spec obligation-mark-requires obligation-action-requires is-after-requires returns)
+duty-by-obligation-spec = tie.close (tie.spec obligation-at-requires is-after-requires returns)

@@ -1,7 +1,6 @@
 -- `from_premises` meets its contract: a rule with premises has one or two, and those with one have an argument or none. Assumes nothing.
 use borrow.Author.Needs.{needs}
-use Rattle.case_file.proofs.LentCaseLaws.{parted}
-use Rattle.rules.proofs.CitedFormulas.{numbered}
+use Rattle.case_file.proofs.LentCaseLaws.{parted, numbered}
 use Rattle.rules.proofs.RuleNumbers.{no-argument, an-argument}
 use Rattle.rules.proofs.ShapedStepLaws.{own-numbered, first-premise, second-premise, by-two, by-one, cites, fits-one, fits-two}
 use Rattle.rules.proofs.sixteen.from_premises.Statement.{statement}

@@ -4,8 +4,7 @@ use mathlib.Core.Path.{_≡_}
 use native.Mathlib.Omega.{arith}
 use Rattle.definition.proofs.Tests.{fails, holds}
 use Rattle.rules.specs.PremiseFormulas.{PremiseThere}
-use Rattle.case_file.proofs.LentCaseLaws.{parted}
-use Rattle.rules.proofs.CitedFormulas.{numbered}
+use Rattle.case_file.proofs.LentCaseLaws.{parted, numbered}
 use Rattle.rules.proofs.OwnedData.{compared, premise-few, Owned, owned-more, all-owned, other-found}
 use Rattle.rules.proofs.sixteen.owns_each.Statement.{statement}
 use Rattle.rules.proofs.sixteen.owns_each.Tie as tie

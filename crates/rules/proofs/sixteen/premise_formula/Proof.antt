@@ -8,15 +8,14 @@ use Rattle.rules.proofs.sixteen.premise_formula.Tie as tie
 premise-step-requires : tie.Need-premise-step-requires
 premise-step-requires c κs = search needs
 
-cast-step-formula : tie.Need-cast-step-formula
-cast-step-formula c = search needs
+cast-step-at : tie.Need-cast-step-at
+cast-step-at c = search needs
 
-step-formula-requires : tie.Need-step-formula-requires
-step-formula-requires c κs = search needs
+step-at-requires : tie.Need-step-at-requires
+step-at-requires c κs = search needs
 
 returns : tie.Need-returns
-returns c = c .step-formula .ensures ∙ ap (stepFormula (c .before .before .before .args .file .now)) (c .before .premise-step .ensures)
+returns c = c .step-at .ensures .formula ∙ ap (stepFormula (c .before .before .before .args .file .now)) (c .before .premise-step .ensures)
 
 pub premise-formula-spec : {M : Type 1} → statement M
-premise-formula-spec =
-    tie.close (tie.spec premise-step-requires cast-step-formula step-formula-requires returns)
+premise-formula-spec = tie.close (tie.spec premise-step-requires cast-step-at step-at-requires returns)

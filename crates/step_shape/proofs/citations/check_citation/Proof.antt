@@ -78,25 +78,4 @@ unfolding failureMeant caseOf namesMeant
 returns-7 c = rw (c .before .enum-told6 .given .1) (sym (hold-all _ (ne-eqb _ absent (c .if1 .left), tt)) ∙ term-checks _ _ _)
 
 pub check-citation-spec : {M : Type 1} → statement M
-check-citation-spec =
-    tie.close
-    (tie.spec
-    enum-told
-    enum-told-2
-    count-of-requires
-    check-entry-requires
-    enum-told-3
-    check-condition-requires
-    enum-told-4
-    check-row-requires
-    enum-told-5
-    count-of-requires-2
-    check-entry-requires-2
-    enum-told-6
-    returns
-    returns-2
-    returns-3
-    returns-4
-    returns-5
-    returns-6
-    returns-7)
+check-citation-spec = tie.close (tie.spec enum-told enum-told-2 count-of-requires check-entry-requires enum-told-3 check-condition-requires enum-told-4 check-row-requires enum-told-5 count-of-requires-2 check-entry-requires-2 enum-told-6 returns returns-2 returns-3 returns-4 returns-5 returns-6 returns-7)

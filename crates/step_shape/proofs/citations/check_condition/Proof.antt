@@ -1,14 +1,12 @@
 -- `check_condition` meets its contract: the entry first, then its reading. Assumes nothing.
 use borrow.Author.Needs.{needs}
 use mathlib.Core.Path.{_≡_, refl, sym, ap, _∙_}
-use native.Mathlib.Omega.{arith}
 use borrow.Author.Tests.{eq-eqb, ne-eqb}
 use Rattle.definition.proofs.CheckLaws.{then-stops, then-goes-on, stops, hold-all}
 use Rattle.definition.specs.01-Words.{absent}
 use Rattle.definition.specs.04-Checks.{inOrder}
 use Rattle.definition.specs.11-Layout.{condition-part, count}
 use Rattle.definition.specs.17-Case.{caseOf}
-use Rattle.case_file.proofs.LentCaseLaws.{parted}
 use Rattle.words.specs.Meanings.{failureMeant}
 use Rattle.step_shape.specs.EntryChecks.{entryChecks}
 use Rattle.step_shape.proofs.CitationLaws.{entry-there, condition-checks, no-reading}
@@ -16,14 +14,14 @@ use Rattle.step_shape.proofs.citations.check_condition.Statement.{state
 use Rattle.step_shape.proofs.citations.check_condition.Tie as tie
 
 abbrev start : tie.After-check-entry → tie.Start
-start c = c .before .before .before .before
+start c = c .before .before .before
 
 -- What was said of the entry.
 said : (c : tie.After-check-entry) → failureMeant (c .check-entry .result) ≡ inOrder (entryChecks (count (start c .args .file .now) condition-part) (start c .args .argument) (start c .args .place))
 said c = rw (c .before .count-of .ensures .0) at (c .check-entry .ensures)
 
 count-of-requires : tie.Need-count-of-requires
-count-of-requires c κs = (parted (c .before .before .pre .lent), omega arith)
+count-of-requires c κs = search needs
 
 check-entry-requires : tie.Need-check-entry-requires
 check-entry-requires c κs = search needs
@@ -38,7 +36,7 @@ condition-formula-requires : tie.Need-condition-formula-requires
 unfolding failureMeant
 condition-formula-requires c κs =
     let e = c .before .before in
-    (parted (start e .pre .lent), entry-there _ _ _ (sym (ap failureMeant (c .enum-told .given .1)) ∙ said e))
+    (start e .pre, entry-there _ _ _ (sym (ap failureMeant (c .enum-told .given .1)) ∙ said e))
 
 returns : tie.Need-returns
 unfolding failureMeant caseOf
@@ -63,14 +61,4 @@ returns-3 c =
     sym (hold-all _ (some-reading, tt)) ∙ then-goes-on there ∙ condition-checks (caseOf (start e .args .file .now)) (start e .args .argument) (start e .args .place)
 
 pub check-condition-spec : {M : Type 1} → statement M
-check-condition-spec =
-    tie.close
-    (tie.spec
-    count-of-requires
-    check-entry-requires
-    enum-known-entry
-    enum-told
-    condition-formula-requires
-    returns
-    returns-2
-    returns-3)
+check-condition-spec = tie.close (tie.spec count-of-requires check-entry-requires enum-known-entry enum-told condition-formula-requires returns returns-2 returns-3)

@@ -4,8 +4,8 @@ use mathlib.Core.Path.{_≡_, refl, sym, ap, _∙_}
 use native.Mathlib.Omega.{arith}
 use Rattle.definition.proofs.CheckLaws.{then-stops, then-goes-on, goes-on, stops, hold-all}
 use Rattle.definition.specs.04-Checks.{accepts, inOrder}
-use Rattle.definition.specs.11-Layout.{log-part, count}
-use Rattle.definition.specs.15-Records.{formulas}
+use Rattle.definition.proofs.PartLaws.{log-rows}
+use Rattle.definition.specs.15-Records.{logOf, rowsIn, formulas}
 use Rattle.definition.specs.17-Case.{caseOf}
 use Rattle.definition.specs.22-Steps.{isHidden, isStruck}
 use Rattle.case_file.specs.Meanings.{viewMeant}
@@ -20,13 +20,13 @@ abbrev start : tie.After-check-entry → tie.Start
 start c = c .before .before .before .before
 
 -- What was said of the entry, and that it is there.
-said : (c : tie.After-check-entry) → failureMeant (c .check-entry .result) ≡ inOrder (entryChecks (count (start c .args .file .now) log-part) (start c .args .argument) (start c .args .place))
-said c = rw (c .before .count-of .ensures .0) at (c .check-entry .ensures)
+said : (c : tie.After-check-entry) → failureMeant (c .check-entry .result) ≡ inOrder (entryChecks (rowsIn (logOf (start c .args .file .now))) (start c .args .argument) (start c .args .place))
+said c = rw (c .before .count-of .ensures .0, ← log-rows _ (parted (start c .pre .lent))) at (c .check-entry .ensures)
 
 abbrev entry : tie.After-view-at → tie.After-check-entry
 entry v = v .before .before .before
 
-passed : (v : tie.After-view-at) → accepts tt ≡ inOrder (entryChecks (count (start (entry v) .args .file .now) log-part) (start (entry v) .args .argument) (start (entry v) .args .place))
+passed : (v : tie.After-view-at) → accepts tt ≡ inOrder (entryChecks (rowsIn (logOf (start (entry v) .args .file .now))) (start (entry v) .args .argument) (start (entry v) .args .place))
 unfolding failureMeant
 passed v = sym (ap failureMeant (v .before .enum-told .given .1)) ∙ said (entry v)
 
@@ -95,18 +95,4 @@ returns-4 c =
     sym (hold-all _ (ap isHidden view, (ap isStruck view, tt))) ∙ then-goes-on (passed v) ∙ row-checks (caseOf (st .args .file .now)) (st .args .argument) (st .args .place)
 
 pub check-row-spec : {M : Type 1} → statement M
-check-row-spec =
-    tie.close
-    (tie.spec
-    count-of-requires
-    check-entry-requires
-    enum-known-entry
-    enum-told
-    view-at-requires
-    enum-told-2
-    enum-told-3
-    enum-told-4
-    returns
-    returns-2
-    returns-3
-    returns-4)
+check-row-spec = tie.close (tie.spec count-of-requires check-entry-requires enum-known-entry enum-told view-at-requires enum-told-2 enum-told-3 enum-told-4 returns returns-2 returns-3 returns-4)

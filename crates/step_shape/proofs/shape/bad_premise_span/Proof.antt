@@ -30,12 +30,4 @@ returns c =
     at (c .bad-span .ensures)
 
 pub bad-premise-span-spec : {M : Type 1} → statement M
-bad-premise-span-spec =
-    tie.close
-    (tie.spec
-    premises-due-requires
-    add-last
-    count-of-requires
-    count-of-requires-2
-    bad-span-requires
-    returns)
+bad-premise-span-spec = tie.close (tie.spec premises-due-requires add-last count-of-requires count-of-requires-2 bad-span-requires returns)

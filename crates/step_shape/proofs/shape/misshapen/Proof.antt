@@ -18,34 +18,33 @@ returns c =
     let st = c .before .before .before .before in
     let s = st .args .file .now in
     let k = st .args .k in
-    let is = st .pre .1 .1 .0 in
+    let is = st .pre .1 .0 in
     rw (misshapen-is s k, ← is .rule, lt-ltb _ _ (c .if1 .taken))
 
-count-of-requires : tie.Need-count-of-requires
-count-of-requires c κs = search needs
-
 closed-policy-requires : tie.Need-closed-policy-requires
-closed-policy-requires c κs = rw (c .count-of .ensures .0) (c .before .before .before .before .before .pre .1 .0 .passes)
+closed-policy-requires c κs = c .before .before .before .before .pre .0 .0 .book
 
 returns-2 : tie.Need-returns-2
 returns-2 c =
-    let st = c .before .before .before .before .before .before .before in
+    let st = c .before .before .before .before .before .before in
     let s = st .args .file .now in
     let k = st .args .k in
-    let is = st .pre .1 .1 .0 in
-    let open-formula = fails (policy-answer s k (st .args .book .now) _ _ (st .pre .1 .0 .is) (is .formula) (c .before .closed-policy .ensures)) (c .if2 .taken) in
+    let is = st .pre .1 .0 in
+    let open-formula = fails (policy-answer s k (st .args .book .now) _ _ (st .pre .0 .0 .is) (is .formula) (c .before .closed-policy .ensures)) (c .if2 .taken) in
     rw (misshapen-is s k, open-formula, or-true)
 
 bad-premise-span-requires : tie.Need-bad-premise-span-requires
-bad-premise-span-requires c κs = search needs
+bad-premise-span-requires c κs =
+    let pre = c .before .before .before .before .before .before .pre in
+    ((pre .0 .0 .parted, pre .0 .1), (pre .1 .0 .from, pre .1 .0 .len))
 
 returns-3 : tie.Need-returns-3
 unfolding badPremiseSpan
 returns-3 c =
-    let st = c .before .before .before .before .before .before .before .before .before in
+    let st = c .before .before .before .before .before .before .before .before in
     let s = st .args .file .now in
     let k = st .args .k in
-    let is = st .pre .1 .1 .0 in
+    let is = st .pre .1 .0 in
     rw (misshapen-is s k, sym (c .before .bad-premise-span .ensures) ∙ c .if3 .taken, or-true)
 
 unlike-rule-requires : tie.Need-unlike-rule-requires
@@ -54,24 +53,14 @@ unlike-rule-requires c κs = search needs
 returns-4 : tie.Need-returns-4
 unfolding badPremiseSpan caseOf ruleOf
 returns-4 c =
-    let st = c .before .before .before .before .before .before .before .before .before .before in
+    let st = c .before .before .before .before .before .before .before .before .before in
     let s = st .args .file .now in
     let k = st .args .k in
-    let is = st .pre .1 .1 .0 in
-    let rule : ltb 15 (stepRule s k) ≡ false = rw (is .rule) at (le-ltb 15 (st .args .step .rule) (c .before .before .before .before .before .before .if1 .left)) in
-    let policy = holds (policy-answer s k (st .args .book .now) _ _ (st .pre .1 .0 .is) (is .formula) (c .before .before .before .before .closed-policy .ensures)) (c .before .before .before .if2 .left) in
+    let is = st .pre .1 .0 in
+    let rule : ltb 15 (stepRule s k) ≡ false = rw (is .rule) at (le-ltb 15 (st .args .step .rule) (c .before .before .before .before .before .if1 .left)) in
+    let policy = holds (policy-answer s k (st .args .book .now) _ _ (st .pre .0 .0 .is) (is .formula) (c .before .before .before .before .closed-policy .ensures)) (c .before .before .before .if2 .left) in
     let span = sym (c .before .before .bad-premise-span .ensures) ∙ c .before .if3 .left in
-    rw (misshapen-is s k, rule, policy, span) (c .unlike-rule .ensures ∙ (λ i. unlikeRule (st .pre .1 .1 .1 i) (is .len i) (is .argument i)))
+    rw (misshapen-is s k, rule, policy, span) (c .unlike-rule .ensures ∙ (λ i. unlikeRule (st .pre .1 .1 i) (is .len i) (is .argument i)))
 
 pub misshapen-spec : {M : Type 1} → statement M
-misshapen-spec =
-    tie.close
-    (tie.spec
-    returns
-    count-of-requires
-    closed-policy-requires
-    returns-2
-    bad-premise-span-requires
-    returns-3
-    unlike-rule-requires
-    returns-4)
+misshapen-spec = tie.close (tie.spec returns closed-policy-requires returns-2 bad-premise-span-requires returns-3 unlike-rule-requires returns-4)

@@ -48,18 +48,4 @@ unfolding mustBeAbsent namesMeant
 returns-6 c = rw (c .enum-told6 .given .1)
 
 pub needless-argument-spec : {M : Type 1} → statement M
-needless-argument-spec =
-    tie.close
-    (tie.spec
-    enum-told
-    enum-told-2
-    enum-told-3
-    enum-told-4
-    enum-told-5
-    enum-told-6
-    returns
-    returns-2
-    returns-3
-    returns-4
-    returns-5
-    returns-6)
+needless-argument-spec = tie.close (tie.spec enum-told enum-told-2 enum-told-3 enum-told-4 enum-told-5 enum-told-6 returns returns-2 returns-3 returns-4 returns-5 returns-6)

@@ -9,41 +9,26 @@ returns : tie.Need-returns
 unfolding spanDue
 returns c = rw (eq-eqb _ 0 (c .if1 .taken))
 
-sub-step-from : tie.Need-sub-step-from
-sub-step-from c = search needs
+sub-step-at : tie.Need-sub-step-at
+sub-step-at c = search needs
 
-step-from-requires : tie.Need-step-from-requires
-step-from-requires c κs = search needs
+step-at-requires : tie.Need-step-at-requires
+step-at-requires c κs = search needs
 
-cast-from : tie.Need-cast-from
-cast-from c = search needs
+cast-result : tie.Need-cast-result
+cast-result c = search needs
 
-sub-step-count : tie.Need-sub-step-count
-sub-step-count c = search needs
-
-step-count-requires : tie.Need-step-count-requires
-step-count-requires c κs = search needs
-
-cast-len : tie.Need-cast-len
-cast-len c = search needs
+cast-result-2 : tie.Need-cast-result-2
+cast-result-2 c = search needs
 
 add-result : tie.Need-add-result
 add-result c = search needs
 
 returns-2 : tie.Need-returns-2
 unfolding spanDue
-returns-2 c = rw (ne-eqb _ 0 (c .before .before .if1 .left), ← c .before .step-from .ensures, ← c .step-count .ensures)
+returns-2 c =
+    let is = c .before .before .step-at .ensures in
+    rw (ne-eqb _ 0 (c .before .before .before .if1 .left), ← is .from, ← is .len)
 
 pub premises-due-spec : {M : Type 1} → statement M
-premises-due-spec =
-    tie.close
-    (tie.spec
-    returns
-    sub-step-from
-    step-from-requires
-    cast-from
-    sub-step-count
-    step-count-requires
-    cast-len
-    add-result
-    returns-2)
+premises-due-spec = tie.close (tie.spec returns sub-step-at step-at-requires cast-result cast-result-2 add-result returns-2)

@@ -23,8 +23,8 @@ has-requires c κs =
     let pre = c .before .before .pre in
     label-few (pre .0 .0) (pre .1)
 
-label-formula-requires : tie.Need-label-formula-requires
-label-formula-requires c κs =
+label-at-requires : tie.Need-label-at-requires
+label-at-requires c κs =
     let pre = c .before .before .before .before .pre in
     (parted (pre .0 .0), pre .1)
 
@@ -34,16 +34,16 @@ cast-formula-has c = search needs
 formula-has-requires : tie.Need-formula-has-requires
 unfolding soughtMeant
 formula-has-requires c κs =
-    let start = c .before .before .before .before .before in
+    let start = c .before .before .before .before .before .before in
     let pre = start .pre in
-    (good-row (label-numbered (pre .0 .0) (pre .1) (c .label-formula .ensures)), term-present (start .args .term) (pre .0 .1))
+    (good-row (label-numbered (pre .0 .0) (pre .1) (c .before .label-at .ensures .formula)), term-present (start .args .term) (pre .0 .1))
 
 returns : tie.Need-returns
 unfolding soughtMeant
 returns c =
-    let start = c .before .before .before .before .before .before in
-    both-second (c .before .before .before .has .ensures) (c .before .before .if1 .taken)
-    (c .formula-has .ensures ∙ ap (has (this-term (start .args .term)) 0) (named (start .pre .0 .0) (c .before .label-formula .ensures)))
+    let start = c .before .before .before .before .before .before .before in
+    both-second (c .before .before .before .before .has .ensures) (c .before .before .before .if1 .taken)
+    (c .formula-has .ensures ∙ ap (has (this-term (start .args .term)) 0) (named (start .pre .0 .0) (c .before .before .label-at .ensures .formula)))
 
 returns-2 : tie.Need-returns-2
 returns-2 c = both-first _ (c .before .has .ensures) (c .if1 .left)
@@ -54,7 +54,7 @@ in-open-label-spec =
     (tie.spec
     cast-has
     has-requires
-    label-formula-requires
+    label-at-requires
     cast-formula-has
     formula-has-requires
     returns

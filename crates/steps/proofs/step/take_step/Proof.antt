@@ -17,16 +17,16 @@ use Rattle.steps.proofs.step.take_step.Statement.{statement}
 use Rattle.steps.proofs.step.take_step.Tie as tie
 
 abbrev begin : tie.After-check-step → tie.Start
-begin c = c .before .before .before .before .before .before .before .before
+begin c = c .before .before .before .before .before .before .before
 
 -- The rule's line, in the words of the step.
-names-is : (c : tie.After-check-step) → namesMeant (c .before .before .before .before .shape-of .result .names) ≡ ruleOf (caseOf (begin c .args .file .now)) (begin c .args .k) .names
+names-is : (c : tie.After-check-step) → namesMeant (c .before .before .before .shape-of .result .names) ≡ ruleOf (caseOf (begin c .args .file .now)) (begin c .args .k) .names
 unfolding caseOf ruleOf shapeMeant shapeOf ruleShape
-names-is c = ap (λ t. t .names) (c .before .before .before .before .shape-of .ensures ∙ ap (λ n. shapeOf (ruleAt n)) (c .before .before .before .before .before .step-at .ensures .rule))
+names-is c = ap (λ t. t .names) (c .before .before .before .shape-of .ensures ∙ ap (λ n. shapeOf (ruleAt n)) (c .before .before .before .before .step-at .ensures .rule))
 
-effect-is : (c : tie.After-check-step) → effectMeant (c .before .before .before .before .shape-of .result .effect) ≡ ruleOf (caseOf (begin c .args .file .now)) (begin c .args .k) .effect
+effect-is : (c : tie.After-check-step) → effectMeant (c .before .before .before .shape-of .result .effect) ≡ ruleOf (caseOf (begin c .args .file .now)) (begin c .args .k) .effect
 unfolding caseOf ruleOf shapeMeant shapeOf ruleShape
-effect-is c = ap (λ t. t .effect) (c .before .before .before .before .shape-of .ensures ∙ ap (λ n. shapeOf (ruleAt n)) (c .before .before .before .before .before .step-at .ensures .rule))
+effect-is c = ap (λ t. t .effect) (c .before .before .before .shape-of .ensures ∙ ap (λ n. shapeOf (ruleAt n)) (c .before .before .before .before .step-at .ensures .rule))
 
 -- What the step cites is there.
 there :
@@ -48,11 +48,11 @@ shape-of-requires c κs = search needs
 check-step-requires : tie.Need-check-step-requires
 unfolding caseOf ruleOf
 check-step-requires c κs =
-    let st = c .before .before .before .before .before .before .before in
+    let st = c .before .before .before .before .before .before in
     let pre = st .pre in
-    let step = c .before .before .before .before .step-at .ensures in
-    let shape = c .before .before .before .shape-of .ensures ∙ ap (λ n. shapeOf (ruleAt n)) (step .rule) in
-    (pre .0, (pre .1 .0, ((step, shape), (pre .1 .1 .opens, pre .1 .1 .used, pre .1 .1 .discharged))))
+    let step = c .before .before .before .step-at .ensures in
+    let shape = c .before .before .shape-of .ensures ∙ ap (λ n. shapeOf (ruleAt n)) (step .rule) in
+    (pre .0, (pre .1 .0, ((step, shape), (pre .1 .1 .left, pre .1 .1 .discharged))))
 
 enum-known-fault : tie.Need-enum-known-fault
 enum-known-fault c = search needs
@@ -66,37 +66,33 @@ leaves-requires c κs =
     let j = c .before .before in
     let st = begin j in
     let s = st .args .file .now in
-    let step = j .before .before .before .before .before .step-at .ensures in
+    let step = j .before .before .before .before .step-at .ensures in
     label-there-as _ _ _ _ (effect-is j) (step .argument) (entries-there s (parted (st .pre .0 .0 .lent)) (stepArgument s (st .args .k)) (stepRule s (st .args .k)) (there c) .label)
 
-mul-opens : tie.Need-mul-opens
-mul-opens c = let st = begin (c .before .before .before) in omega (arith, st .pre .1 .0 .0, steps-few _ (parted (st .pre .0 .0 .lent)))
-
-element-write-opens : tie.Need-element-write-opens
-element-write-opens c = let st = begin (c .before .before .before) in omega (arith, st .pre .1 .0 .0, steps-few _ (parted (st .pre .0 .0 .lent)))
+set-opens-requires : tie.Need-set-opens-requires
+set-opens-requires c κs = let j = c .before .before .before .before in let pre = begin j .pre in (omega (arith, pre .1 .0 .0, steps-few _ (parted (pre .0 .0 .lent))), j .check-step .ensures .long)
 
 mark-cited-requires : tie.Need-mark-cited-requires
 unfolding caseOf ruleOf
 mark-cited-requires c κs =
-    let e = c .before .before .before in
+    let e = c .before .before .before .before .before in
     let j = e .before .before in
     let st = begin j in
     let s = st .args .file .now in
-    let step = j .before .before .before .before .before .step-at .ensures in
+    let step = j .before .before .before .before .step-at .ensures in
     (st .pre .1 .1 .cited, st .pre .1 .1 .discharged, cited-there-as _ _ _ _ (names-is j) (step .argument) (cited-there s (parted (st .pre .0 .0 .lent)) (stepArgument s (st .args .k)) _ (there e)))
 
 returns : tie.Need-returns
 returns c =
     let j = c .before .before .before in
-    stepped-refused _ _ _ _ _ _ (j .check-step .result) _ (j .check-step .ensures) (begin j .pre .1 .1) _ _ (c .before .fault .given .1)
+    stepped-refused _ _ _ _ _ (j .check-step .result) _ (j .check-step .ensures) (begin j .pre .1 .1) _ _ (c .before .fault .given .1)
 
 returns-2 : tie.Need-returns-2
 returns-2 c =
-    let e = c .before .before .before .before in
+    let e = c .before .before .before .before .before .before in
     let j = e .before .before in
-    let st = begin j in
-    stepped-accepted _ _ _ _ _ _ (j .check-step .result) _ (j .check-step .ensures) (st .pre .1 .1) _ _ _ _ _ _ (names-is j) (effect-is j) (j .before .before .before .before .before .step-at .ensures .argument)
-    (e .enum-told .given .1) (omega (arith, st .pre .1 .0 .0, steps-few _ (parted (st .pre .0 .0 .lent)))) (c .before .before .before .leaves .ensures) (c .mark-cited .ensures)
+    stepped-accepted _ _ _ _ _ (j .check-step .result) _ (j .check-step .ensures) (begin j .pre .1 .1) _ _ _ _ _ _ _ (names-is j) (effect-is j) (j .before .before .before .before .step-at .ensures .argument)
+    (e .enum-told .given .1) (c .before .before .before .before .before .leaves .ensures) (c .before .before .before .set-opens .ensures) (c .mark-cited .ensures)
 
 pub take-step-spec : {M : Type 1} → statement M
 take-step-spec =
@@ -108,8 +104,7 @@ take-step-spec =
     enum-known-fault
     enum-told
     leaves-requires
-    mul-opens
-    element-write-opens
+    set-opens-requires
     mark-cited-requires
     returns
     returns-2)

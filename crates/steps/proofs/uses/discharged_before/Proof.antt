@@ -25,17 +25,19 @@ enum-told-4 c = search needs
 enum-told-5 : tie.Need-enum-told-5
 enum-told-5 c = search needs
 
-obligation-mark-requires : tie.Need-obligation-mark-requires
+obligation-at-requires : tie.Need-obligation-at-requires
 unfolding isAnObligation namesMeant
-obligation-mark-requires c κs = let st = c .before .before .before in (st .pre .0 .0, st .pre .1 (ap (λ n. isAnObligation (namesMeant n)) (c .enum-told5 .given .1)))
+obligation-at-requires c κs = let st = c .before .before .before in (st .pre .0 .0, st .pre .1 (ap (λ n. isAnObligation (namesMeant n)) (c .enum-told5 .given .1)))
 
 element-copy-out-result : tie.Need-element-copy-out-result
 unfolding isAnObligation namesMeant
-element-copy-out-result c = let st = c .before .before .before .before .before in omega (arith, st .pre .1 (ap (λ n. isAnObligation (namesMeant n)) (c .before .before .enum-told5 .given .1)), obligations-few _ (st .pre .0 .0))
+element-copy-out-result c =
+    let st = c .before .before .before .before .before .before in
+    omega (arith, st .pre .1 (ap (λ n. isAnObligation (namesMeant n)) (c .before .before .before .enum-told5 .given .1)), obligations-few _ (st .pre .0 .0))
 
 returns : tie.Need-returns
 unfolding isAnObligation namesMeant marks
-returns c = rw (c .before .before .before .enum-told5 .given .1, ← c .before .before .obligation-mark .ensures, c .before .if1 .taken)
+returns c = rw (c .before .before .before .before .enum-told5 .given .1, ← c .before .before .before .obligation-at .ensures .mark, c .before .if1 .taken)
 
 enum-told-6 : tie.Need-enum-told-6
 enum-told-6 c = search needs
@@ -58,7 +60,7 @@ returns-5 c = rw (c .enum-told4 .given .1)
 
 returns-6 : tie.Need-returns-6
 unfolding isAnObligation namesMeant marks
-returns-6 c = rw (c .before .before .enum-told5 .given .1, ← c .before .obligation-mark .ensures, ne-eqb _ 1 (c .if1 .left))
+returns-6 c = rw (c .before .before .before .enum-told5 .given .1, ← c .before .before .obligation-at .ensures .mark, ne-eqb _ 1 (c .if1 .left))
 
 returns-7 : tie.Need-returns-7
 unfolding isAnObligation namesMeant marks
@@ -73,7 +75,7 @@ discharged-before-spec =
     enum-told-3
     enum-told-4
     enum-told-5
-    obligation-mark-requires
+    obligation-at-requires
     element-copy-out-result
     returns
     enum-told-6

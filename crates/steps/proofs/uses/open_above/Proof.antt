@@ -1,7 +1,7 @@
 -- `open_above` meets its contract. The loop's invariant: `above` is of the premises from `j` on. Assumes nothing.
 use borrow.Author.Needs.{needs}
 use Prim.Native.Nat.{ℕ, _+_, _-_, _≤_}
-use mathlib.Core.Path.{_≡_, refl}
+use mathlib.Core.Path.{_≡_}
 use mathlib.Core.List.{List}
 use native.Mathlib.Omega.{arith}
 use Rattle.steps.specs.OpenLabels.{IsAbove}
@@ -11,16 +11,16 @@ use Rattle.steps.proofs.OpenLabelLaws.{above-nothing, above-more}
 use Rattle.steps.proofs.uses.open_above.Statement.{statement}
 use Rattle.steps.proofs.uses.open_above.Tie as tie
 
-record Turn (s : List ℕ) (from len : ℕ) (opens : List ℕ) (above : Above) (j : ℕ) : Type 0 where
+record Turn (s : List ℕ) (from len : ℕ) (left : List ℕ) (above : Above) (j : ℕ) : Type 0 where
   begun : from ≤ j
   within : j ≤ from + len
-  is : IsAbove s j (from + len - j) opens above
+  is : IsAbove s j (from + len - j) left above
 
 abbrev Inv-loop : tie.InvT-loop
-Inv-loop file from len opens each-use above₀ j₀ above j = Turn file from len opens above j
+Inv-loop file from len left each-use above₀ j₀ above j = Turn file from len left above j
 
 abbrev μ-loop : tie.MeasureT-loop
-μ-loop file from len opens each-use above₀ j₀ above j = j - from
+μ-loop file from len left each-use above₀ j₀ above j = j - from
 
 nothing-requires : tie.Need-nothing-requires Inv-loop μ-loop
 nothing-requires c κs = tt
@@ -31,7 +31,7 @@ add-j c = let st = c .before .before in omega (arith, st .pre .0 .1, premises-fe
 loop-holds : tie.Need-loop-holds Inv-loop μ-loop
 loop-holds c =
     let st = c .before .before in
-    record { begun = omega arith; within = omega arith; is = above-nothing (st .args .file .now) (st .args .opens .now) (st .args .from + st .args .len) (c .nothing .result) (c .nothing .ensures .0) (c .nothing .ensures .1) }
+    record { begun = omega arith; within = omega arith; is = above-nothing (st .args .file .now) (st .args .left .now) (st .args .from + st .args .len) (c .nothing .result) (c .nothing .ensures .0) (c .nothing .ensures .1) }
 
 sub-j : tie.Need-sub-j Inv-loop μ-loop
 sub-j c = omega (arith, c .loop-test .taken)
@@ -42,11 +42,8 @@ premise-step-requires c κs = let st = c .before .before .before .before in (st 
 cast-p : tie.Need-cast-p Inv-loop μ-loop
 cast-p c = search needs
 
-mul-t12 : tie.Need-mul-t12 Inv-loop μ-loop
-mul-t12 c = let st = c .before .before .before .before .before in let l = c .before .before .loop in omega (arith, c .premise-step .ensures, st .pre .1 .0 .0 (l .j - 1) (omega (arith, c .before .loop-test .taken)) (omega (arith, l .inv .within, c .before .loop-test .taken)))
-
-element-copy-out-t15 : tie.Need-element-copy-out-t15 Inv-loop μ-loop
-element-copy-out-t15 c = let st = c .before .before .before .before .before in let l = c .before .before .loop in omega (arith, c .premise-step .ensures, st .pre .1 .0 .0 (l .j - 1) (omega (arith, c .before .loop-test .taken)) (omega (arith, l .inv .within, c .before .loop-test .taken)))
+opens-at-requires : tie.Need-opens-at-requires Inv-loop μ-loop
+opens-at-requires c κs = let st = c .before .before .before .before .before in let l = c .before .before .loop in omega (arith, c .premise-step .ensures, st .pre .1 .0 .0 (l .j - 1) (omega (arith, c .before .loop-test .taken)) (omega (arith, l .inv .within, c .before .loop-test .taken)))
 
 with-requires : tie.Need-with-requires Inv-loop μ-loop
 with-requires c κs = tt
@@ -56,16 +53,17 @@ loop-less c = omega (arith, c .before .before .before .loop-test .taken)
 
 loop-again : tie.Need-loop-again Inv-loop μ-loop
 loop-again c =
-    let st = c .before .before .before .before .before .before .before in
-    let l = c .before .before .before .before .loop in
+    let test = c .before .before .before in
+    let st = test .before .before .before .before in
+    let l = test .before .loop in
     let v = l .inv in
-    let up : l .j - 1 + 1 ≡ l .j = omega (arith, c .before .before .before .loop-test .taken) in
+    let up : l .j - 1 + 1 ≡ l .j = omega (arith, test .loop-test .taken) in
     record {
-      begun = omega (arith, c .before .before .before .loop-test .taken);
+      begun = omega (arith, test .loop-test .taken);
       within = omega (arith, v .within);
       is =
-          above-more (st .args .file .now) (st .args .opens .now) (st .args .from + st .args .len) (l .j - 1) _ _ _ (l .above) _ (labels-few _ (st .pre .0 .0))
-          (omega (arith, v .within, c .before .before .before .loop-test .taken)) (c .before .before .premise-step .ensures) (st .pre .1 .1) refl
+          above-more (st .args .file .now) (st .args .left .now) (st .args .from + st .args .len) (l .j - 1) _ _ _ (l .above) _ (labels-few _ (st .pre .0 .0))
+          (omega (arith, v .within, test .loop-test .taken)) (c .before .before .premise-step .ensures) (st .pre .1 .1) (c .before .opens-at .ensures)
           (rw up (v .is)) (c .with .ensures);
     }
 
@@ -90,8 +88,7 @@ open-above-spec =
     sub-j
     premise-step-requires
     cast-p
-    mul-t12
-    element-copy-out-t15
+    opens-at-requires
     with-requires
     loop-less
     loop-again
