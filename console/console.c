@@ -13,6 +13,12 @@ enum { EXIT_TROUBLE = 3 };
 /* One byte more than a file may have is enough to have it refused. */
 enum { MOST_READ = JUSTIFICATION_LARGEST_FILE + 1 };
 
+/* Where the header has the offset of the steps, and the bytes of a step. */
+enum { STEPS_OFFSET = 28, STEP_BYTES = 10 };
+
+/* More than any number of a file. */
+enum { NO_NUMBER = 65536 };
+
 /* The parts of a file, by place. */
 static const char *const parts[] = {"formulas",   "log rows",    "observers",
                                     "conditions", "obligations", "labels",
@@ -30,6 +36,19 @@ static const struct refusal refusals[] = {
 #define REFUSAL(number, name, counts, meaning) [number] = {counts, meaning},
     JUSTIFICATION_REFUSALS(REFUSAL)
 #undef REFUSAL
+};
+
+/* A refusal of a step in words, by the rule of the step. */
+struct step_fault {
+    unsigned number;
+    unsigned rule;
+    const char *meaning;
+};
+
+static const struct step_fault step_faults[] = {
+#define STEP_FAULT(number, rule, meaning) {number, rule, meaning},
+    JUSTIFICATION_STEP_FAULTS(STEP_FAULT)
+#undef STEP_FAULT
 };
 
 /* Reads what is left of the stream; -1 if it cannot be read. */
@@ -72,22 +91,55 @@ static void print_passed(struct justification_verdict verdict,
         printf("Log row %u is cited.\n", (unsigned)room[entry]);
 }
 
-static void print_refused(unsigned number, unsigned place)
+/* The file's number at this byte; NO_NUMBER where the file has no two bytes. */
+static unsigned number_at(const uint8_t *file, size_t bytes, size_t at)
+{
+    if (at >= bytes || bytes - at < 2)
+        return NO_NUMBER;
+    return file[at] | (unsigned)file[at + 1] << 8;
+}
+
+/* The rule of a step; NO_NUMBER where the file has no such step. */
+static unsigned rule_of(const uint8_t *file, size_t bytes, unsigned step)
+{
+    size_t steps = number_at(file, bytes, STEPS_OFFSET);
+
+    return number_at(file, bytes, steps + (size_t)STEP_BYTES * step);
+}
+
+/* What is wrong, by the rule of the step where the refusal tells it so. */
+static const char *meaning_of(unsigned number, unsigned rule,
+                              const struct refusal *refusal)
+{
+    const size_t known = sizeof step_faults / sizeof step_faults[0];
+    size_t entry;
+
+    for (entry = 0; entry < known; entry++)
+        if (step_faults[entry].number == number &&
+            step_faults[entry].rule == rule)
+            return step_faults[entry].meaning;
+    return refusal->meaning;
+}
+
+static void print_refused(unsigned number, unsigned place, const uint8_t *file,
+                          size_t bytes)
 {
     unsigned known = sizeof refusals / sizeof refusals[0];
     const struct refusal *refusal = &refusals[number < known ? number : 0];
     int has_place = refusal->counts[0] != '\0';
+    unsigned rule = rule_of(file, bytes, place);
 
     printf("refused %u %u\n", number, place);
     if (has_place)
         printf("%s %u", refusal->counts, place);
     if (number == JUSTIFICATION_FAULTY_PART && place < 8)
         printf(" (%s)", parts[place]);
-    printf("%s%s\n", has_place ? ": " : "", refusal->meaning);
+    printf("%s%s\n", has_place ? ": " : "", meaning_of(number, rule, refusal));
 }
 
 static void print_verdict(struct justification_verdict verdict,
-                          const uint16_t *room)
+                          const uint16_t *room, const uint8_t *file,
+                          size_t bytes)
 {
     switch (verdict.kind) {
     case JUSTIFICATION_PASSED:
@@ -98,7 +150,7 @@ static void print_verdict(struct justification_verdict verdict,
         puts("This action asks nothing of this agent.");
         break;
     default:
-        print_refused(verdict.first, verdict.second);
+        print_refused(verdict.first, verdict.second, file, bytes);
     }
 }
 
@@ -120,7 +172,7 @@ int main(int argc, char **argv)
     }
     verdict =
         justification_check(file, (size_t)bytes, room, JUSTIFICATION_ROOM);
-    print_verdict(verdict, room);
+    print_verdict(verdict, room, file, (size_t)bytes);
     if (fflush(stdout) != 0 || ferror(stdout)) {
         perror("standard output");
         return EXIT_TROUBLE;

@@ -66,8 +66,9 @@ struct justification_verdict {
 
 /*
 ** Refusals, in the order in which the checks are made: 1 to 11 by number, the
-** lowest place first; then step by step, each through 12 to 19; then 20 to 23.
-** One exception: where a step cites a log row that is struck out, 16 is tried
+** lowest place first; then step by step, each through 12 to 17, then 24, 25 and
+** 26, then 18 and 19; then 20 to 23. A number is a name and tells no order. One
+** exception: where a step cites a log row that is struck out, 16 is tried
 ** before 14. All places are counted from 0.
 **
 ** The file is damaged or not a case file. Ask whoever sent it for a good one.
@@ -95,7 +96,8 @@ struct justification_verdict {
 **     agent or the wrong action is named. Place: 0.
 **
 ** A step fails. Place: the step. All steps before it are in order. Send it back
-** to the agent with the step's number.
+** to the agent with the step's number, and for 24 to 26 with the sentence that
+** JUSTIFICATION_STEP_FAULTS has for the step's rule: it names what is wrong.
 **
 ** 12  The step is not well made: no such rule, no closed policy, premises not
 **     where they are due or not as many as the rule takes, or an argument where
@@ -108,8 +110,21 @@ struct justification_verdict {
 ** 16  The agent is not among the observers of the log row. The agent cannot
 **     rest on it, whatever it holds.
 ** 17  A duty owed at each use is used twice. A second such duty is needed.
+** 24  A premise is not of the kind that the rule takes, say, no conjunction for
+**     a rule that takes one apart. Most often the wrong step is named as
+**     premise, two are in the wrong order, or the wrong rule is named.
+** 25  A premise is about somebody else. Rule 3 takes what was said to the
+**     agent, rule 4 what the agent said, rule 5 what the agent owns.
+** 26  "For all" and its instance do not agree (rules 14 and 15): the body with
+**     the argument put in is not what stands there. Most often the argument
+**     names another object than the formula does.
 ** 18  The rule does not give the step's formula from its premises and its
-**     argument. Also where a log row tells this agent nothing.
+**     argument, and the fault is none of the three above. So also where a log
+**     row tells this agent nothing; where the step's own formula is by another
+**     than the agent, or to another than its premise (rules 4 and 5), or is no
+**     "for all" (rule 14); where the data owned are not just those of the
+**     formula (rule 5); where the argument is none that rule 14 or 15 admits;
+**     and where an obligation's mark or action is not the one demanded.
 ** 19  "For all" was concluded from something assumed of one: the parameter
 **     still stands in the formula, or in what is supposed there.
 **
@@ -160,6 +175,12 @@ struct justification_verdict {
     REFUSAL(16, NOT_SEEN, "Step",                                              \
             "the agent is not among the observers of the log row.")            \
     REFUSAL(17, USED_TWICE, "Step", "a duty owed at each use is used twice.")  \
+    REFUSAL(24, WRONG_PREMISE_KIND, "Step",                                    \
+            "a premise is not of the kind that the rule takes.")               \
+    REFUSAL(25, WRONG_PARTY, "Step",                                           \
+            "a premise is about another than the agent.")                      \
+    REFUSAL(26, WRONG_INSTANCE, "Step",                                        \
+            "\"for all\" and its instance do not agree.")                      \
     REFUSAL(18, MISFIT, "Step", "the rule does not give this formula.")        \
     REFUSAL(19, PARAMETER_NOT_FREE, "Step",                                    \
             "\"for all\" is concluded from something assumed of one.")         \
@@ -168,6 +189,55 @@ struct justification_verdict {
     REFUSAL(22, NOT_WHAT_IS_OWED, "Step",                                      \
             "it is the last one, and does not prove what is owed.")            \
     REFUSAL(23, ROOM_TOO_SHORT, "Entries needed", "the room is too short.")
+
+/*
+** Refusals that say more by the rule of the step, as a list, to be used with a
+** macro of three parameters: number, rule, and what is wrong in words, which
+** stand in place of the general ones above. No other rule is refused by these
+** numbers. The rule of step k is the 16-bit number, low byte first, at byte
+** s + 10 * k of the file, and s is the one at byte 28.
+*/
+#define JUSTIFICATION_STEP_FAULTS(STEP_FAULT)                                  \
+    STEP_FAULT(24, 3,                                                          \
+               "the premise of rule 3 (says) is no statement, \"X says F "     \
+               "to Y\".")                                                      \
+    STEP_FAULT(24, 4,                                                          \
+               "a premise of rule 4 (refine) is of the wrong kind: the "       \
+               "first must be an implication, \"F implies G\", the second "    \
+               "a statement, \"X says F to Y\".")                              \
+    STEP_FAULT(24, 5,                                                          \
+               "a premise of rule 5 (owner) is no ownership, \"X owns D\".")   \
+    STEP_FAULT(24, 7,                                                          \
+               "the premise of rule 7 (left) is no conjunction, \"F and "      \
+               "G\".")                                                         \
+    STEP_FAULT(24, 8,                                                          \
+               "the premise of rule 8 (right) is no conjunction, \"F and "     \
+               "G\".")                                                         \
+    STEP_FAULT(24, 10,                                                         \
+               "the first premise of rule 10 (implied) is no implication, "    \
+               "\"F implies G\".")                                             \
+    STEP_FAULT(24, 12,                                                         \
+               "the premise of rule 12 (by obligation) demands no duty, as "   \
+               "\"!action implies F\" and \"?action implies F\" do.")          \
+    STEP_FAULT(24, 13,                                                         \
+               "the premise of rule 13 (by label) demands no duty, as "        \
+               "\"!action implies F\" and \"?action implies F\" do.")          \
+    STEP_FAULT(24, 15, "the premise of rule 15 (instance) is no \"for all\".") \
+    STEP_FAULT(25, 3,                                                          \
+               "the premise of rule 3 (says) is said to another than the "     \
+               "agent.")                                                       \
+    STEP_FAULT(25, 4,                                                          \
+               "the second premise of rule 4 (refine) is said by another "     \
+               "than the agent.")                                              \
+    STEP_FAULT(25, 5,                                                          \
+               "a premise of rule 5 (owner) has another owner than the "       \
+               "agent.")                                                       \
+    STEP_FAULT(26, 14,                                                         \
+               "the premise of rule 14 (for all) is not the body of the "      \
+               "\"for all\" with the parameter put in.")                       \
+    STEP_FAULT(26, 15,                                                         \
+               "its formula is not what rule 15 (instance) gives: the body "   \
+               "of the \"for all\" with the argument put in.")
 
 /* JUSTIFICATION_FILE_LENGTH is 1, and so on down the list. */
 enum justification_refusal {

@@ -222,6 +222,24 @@ impl CaseFile {
         self
     }
 
+    /// Supposes each premise, by a label of its own after those that are there, and takes a step
+    /// from them.
+    pub fn step_from(
+        mut self,
+        rule: u16,
+        premises: &[&str],
+        argument: u16,
+        formula: &str,
+    ) -> CaseFile {
+        let first = self.steps.len() as u16;
+        for premise in premises {
+            let label = self.labels.len() as u16;
+            self = self.label(0, premise).step(SUPPOSE, premise, label, &[]);
+        }
+        let supposed: Vec<u16> = (first..self.steps.len() as u16).collect();
+        self.step(rule, formula, argument, &supposed)
+    }
+
     /// The case with a change made by hand.
     pub fn change(mut self, change: impl FnOnce(&mut CaseFile)) -> CaseFile {
         change(&mut self);

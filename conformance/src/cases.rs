@@ -1,21 +1,24 @@
-//! Document 01's examples: the rows of its table, and the desk cases.
+//! Document 01's examples: the rows of its table, and the desk cases; and examples of the numbers
+//! that change request 1 of document 02 brings.
 
 use std::fs;
 use std::path::Path;
 
 use crate::builder::*;
 use crate::checker::{Verdict, ABSENT};
+use crate::misfits::misfits;
 use crate::vectors::{read, Vector};
 
 /// The entries the program lends.
 pub const ROOM: usize = 1_088;
 
-/// Every example of document 01, by name.
+/// Every example, by name.
 pub fn examples() -> Vec<Vector> {
     let mut all = admission_rows();
     all.extend(step_rows());
     all.extend(end_rows());
     all.extend(desk_cases());
+    all.extend(misfits_at_the_desk());
     all
 }
 
@@ -101,6 +104,21 @@ fn desk_cases() -> Vec<Vector> {
     ]
 }
 
+/// 24, 25 and 26 as the desk meets them; an argument that the rule does not admit stays 18.
+fn misfits_at_the_desk() -> Vec<Vector> {
+    let swapped = visit().change(|case| case.steps[3].premises = vec![2, 1]);
+    let other_modem = any_modem().change(|case| case.steps[2].argument = data(1));
+    let no_modem = any_modem().change(|case| case.steps[2].argument = 1);
+    vec![
+        refused("24: Visit, the reading before the policy", swapped, 24, 3),
+        refused("25: Grant, by another than the owner", not_the_owner(), 25, 2),
+        refused("25: Visit, what was said to another", said_to_another(), 25, 2),
+        passed("Any modem", any_modem(), &[], &[0]),
+        refused("26: Any modem, another modem's number", other_modem, 26, 2),
+        refused("18: Any modem, the technician's number", no_modem, 18, 2),
+    ]
+}
+
 /// Agent 0 created data 0 and grants agent 1 its use.
 pub fn grant() -> CaseFile {
     CaseFile::new(0)
@@ -131,6 +149,60 @@ pub fn visit() -> CaseFile {
         .step(SAYS, "use if open", ABSENT, &[0])
         .step(CONDITION, "open", 0, &[])
         .step(IMPLIED, "use", ABSENT, &[1, 2])
+}
+
+/// Agent 0 grants the use of data 0, of which it knows that agent 2 is the owner.
+fn not_the_owner() -> CaseFile {
+    CaseFile::new(0)
+        .formula("2 owns", owns(2, data(0)))
+        .formula("2 communicates", communicates(2, "2 owns", 0))
+        .formula("2 says", says(2, "2 owns", 0))
+        .formula("use", predicate(7, &[1, data(0)]))
+        .formula("0 says", says(0, "use", 1))
+        .formula("0 communicates", communicates(0, "use", 1))
+        .audits("0 communicates")
+        .row("2 communicates", &[0, 2])
+        .step(SEEN, "2 says", 0, &[])
+        .step(SAYS, "2 owns", ABSENT, &[0])
+        .step(OWNER, "0 says", ABSENT, &[1])
+}
+
+/// Agent 1 uses data 0 and rests on what agent 0 said to agent 2, of which it was told.
+fn said_to_another() -> CaseFile {
+    CaseFile::new(1)
+        .formula("use", predicate(7, &[1, data(0)]))
+        .formula("0 says to 2", says(0, "use", 2))
+        .formula("0 communicates", communicates(0, "0 says to 2", 1))
+        .formula("0 says to 1", says(0, "0 says to 2", 1))
+        .formula("1 uses", user_action(7, &[1, data(0)]))
+        .audits("1 uses")
+        .row("0 communicates", &[0, 1])
+        .step(SEEN, "0 says to 1", 0, &[])
+        .step(SAYS, "0 says to 2", ABSENT, &[0])
+        .step(SAYS, "use", ABSENT, &[1])
+}
+
+/// Agent 1 uses data 0 under a policy for all data.
+fn any_modem() -> CaseFile {
+    CaseFile::new(1)
+        .formula("open", predicate(9, &[data(0)]))
+        .formula("use", predicate(7, &[1, data(0)]))
+        .formula("use if open", implies("open", "use"))
+        .formula("x open", predicate(9, &[data_variable(0)]))
+        .formula("use x", predicate(7, &[1, data_variable(0)]))
+        .formula("use x if open", implies("x open", "use x"))
+        .formula("use any if open", for_all_data("use x if open"))
+        .formula("0 communicates", communicates(0, "use any if open", 1))
+        .formula("0 says", says(0, "use any if open", 1))
+        .formula("1 uses", user_action(7, &[1, data(0)]))
+        .audits("1 uses")
+        .row("0 communicates", &[0, 1])
+        .condition("open")
+        .step(SEEN, "0 says", 0, &[])
+        .step(SAYS, "use any if open", ABSENT, &[0])
+        .step(INSTANCE, "use if open", data(0), &[1])
+        .step(CONDITION, "open", 0, &[])
+        .step(IMPLIED, "use", ABSENT, &[2, 3])
 }
 
 /// Agent 1 uses data 0 under an each-use obligation, which it cites twice.
@@ -214,8 +286,10 @@ pub fn vector_files() -> Vec<(String, Vec<Vector>)> {
     vectors.collect()
 }
 
+/// The examples, a case for each misfit, and the vectors.
 pub fn examples_and_vectors() -> Vec<Vector> {
     let mut all = examples();
+    all.extend(misfits());
     all.extend(vector_files().into_iter().flat_map(|(_, vectors)| vectors));
     all
 }

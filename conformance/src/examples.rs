@@ -1,5 +1,5 @@
-//! The case files of `examples/`: document 01's desk cases, and the worked examples of the two
-//! papers. A vector's name is its file's.
+//! The case files of `examples/`: document 01's desk cases, misfits as the desk meets them, and the
+//! worked examples of the two papers. A vector's name is its file's.
 
 use std::fs;
 use std::io;
@@ -10,9 +10,9 @@ use crate::output::printed;
 use crate::papers;
 use crate::vectors::Vector;
 
-/// Each desk case's file, and its name among document 01's examples. Row 23 needs a short room,
-/// which no program lends: the tests have it.
-const DESK: [(&str, &str); 15] = [
+/// Each desk case's file, and its name among the examples. Row 23 needs a short room, which no
+/// program lends: the tests have it.
+const DESK: [(&str, &str); 21] = [
     ("grant", "Grant"),
     ("grant-no-steps", "row 10: Grant, no steps, no premises"),
     ("grant-other-agent", "row 11: Grant, agent 1"),
@@ -28,6 +28,12 @@ const DESK: [(&str, &str); 15] = [
     ("twice-second-obligation", "Twice, a second obligation"),
     ("twice-once", "Twice, kind 7 and mark 2"),
     ("supposed", "row 21: one step supposing what is owed"),
+    ("visit-premises-swapped", "24: Visit, the reading before the policy"),
+    ("grant-not-the-owner", "25: Grant, by another than the owner"),
+    ("visit-said-to-another", "25: Visit, what was said to another"),
+    ("any-modem", "Any modem"),
+    ("any-modem-other-number", "26: Any modem, another modem's number"),
+    ("any-modem-no-modem", "18: Any modem, the technician's number"),
 ];
 
 pub fn all() -> Vec<Vector> {
@@ -35,7 +41,7 @@ pub fn all() -> Vec<Vector> {
     let mut all = Vec::new();
     for (file, name) in DESK {
         let at = known.iter().position(|vector| vector.name == name);
-        let vector = known.swap_remove(at.expect("it is among document 01's examples"));
+        let vector = known.swap_remove(at.expect("it is among the examples"));
         all.push(Vector { name: file.to_string(), ..vector });
     }
     all.extend(papers::examples());

@@ -21,8 +21,9 @@ struct Hypothesis {
 }
 
 /// What a slip is: something supposed for good, a row cited that is hidden, struck or about others,
-/// an owner step over a data variable, an each-use obligation or label used twice, a parameter that
-/// is not free.
+/// an owner step over a data variable, a premise of another kind or about another party, an
+/// instance by another argument, an each-use obligation or label used twice, a parameter that is
+/// not free.
 #[derive(Clone, Copy, PartialEq)]
 enum Slip {
     Supposed,
@@ -30,18 +31,27 @@ enum Slip {
     Struck,
     Bystander,
     Variable,
+    Kind,
+    Party,
+    Instance,
     Obligation,
     Label,
     Parameter,
 }
 
-/// The last three need more to come together, so they are tried more often.
-const SLIPS: [Slip; 11] = [
+/// Those from `Kind` on are tried more often: the last three need more to come together.
+const SLIPS: [Slip; 17] = [
     Slip::Supposed,
     Slip::Hidden,
     Slip::Struck,
     Slip::Bystander,
     Slip::Variable,
+    Slip::Kind,
+    Slip::Kind,
+    Slip::Party,
+    Slip::Party,
+    Slip::Instance,
+    Slip::Instance,
     Slip::Obligation,
     Slip::Obligation,
     Slip::Label,
@@ -222,7 +232,8 @@ impl Maker<'_> {
         if let Some(first) = self.book.parameters(goal).first().copied() {
             let general = self.book.generalised(goal, first, || true)?;
             let premise = self.prove_plainly(general)?;
-            return self.step(INSTANCE, goal, first, &[premise]);
+            let argument = self.argument(first);
+            return self.step(INSTANCE, goal, argument, &[premise]);
         }
         match self.book.kind(goal) {
             0 if !self.random.one_in(3) => {
@@ -299,10 +310,32 @@ impl Maker<'_> {
         Some(())
     }
 
+    /// A premise of a kind that the rule asks for: by a slip, any policy in its place.
+    fn premise(&mut self, goal: u16) -> Option<u16> {
+        let goal = if self.slips(Slip::Kind) { self.policy(1)? } else { goal };
+        self.prove(goal)
+    }
+
+    /// The agent, where a premise has to be about it: by a slip, any agent.
+    fn party(&mut self) -> u16 {
+        match self.slips(Slip::Party) {
+            true => name(self.random, AGENTS),
+            false => self.case.agent,
+        }
+    }
+
+    /// What is put in for a variable: by a slip, any name of that sort.
+    fn argument(&mut self, due: u16) -> u16 {
+        match self.slips(Slip::Instance) {
+            true => name(self.random, sort_of(due)),
+            false => due,
+        }
+    }
+
     fn says(&mut self, goal: u16) -> Option<u16> {
-        let x = name(self.random, AGENTS);
-        let said = self.book.says(x, goal, self.case.agent)?;
-        let premise = self.prove(said)?;
+        let (x, to) = (name(self.random, AGENTS), self.party());
+        let said = self.book.says(x, goal, to)?;
+        let premise = self.premise(said)?;
         self.step(SAYS, goal, ABSENT, &[premise])
     }
 
@@ -321,19 +354,21 @@ impl Maker<'_> {
     }
 
     fn refine(&mut self, goal: u16) -> Option<u16> {
-        let [x, policy, z] = self.book.fields(goal);
+        let [_, policy, z] = self.book.fields(goal);
         let from = self.helper()?;
         let implication = self.book.pair(5, from, policy)?;
-        let said = self.book.says(x, from, z)?;
-        let premises = [self.prove(implication)?, self.prove(said)?];
+        let by = self.party();
+        let said = self.book.says(by, from, z)?;
+        let premises = [self.premise(implication)?, self.premise(said)?];
         self.step(REFINE, goal, ABSENT, &premises)
     }
 
     fn owner(&mut self, goal: u16) -> Option<u16> {
         let mut premises = Vec::new();
         for datum in self.data_in(goal) {
-            let owned = self.book.pair(1, self.case.agent, datum)?;
-            premises.push(self.prove(owned)?);
+            let owner = self.party();
+            let owned = self.book.pair(1, owner, datum)?;
+            premises.push(self.premise(owned)?);
         }
         self.step(OWNER, goal, ABSENT, &premises)
     }
@@ -351,14 +386,14 @@ impl Maker<'_> {
             false => (RIGHT, other, goal),
         };
         let both = self.book.pair(3, left, right)?;
-        let premise = self.prove(both)?;
+        let premise = self.premise(both)?;
         self.step(rule, goal, ABSENT, &[premise])
     }
 
     fn implied(&mut self, goal: u16) -> Option<u16> {
         let from = self.helper()?;
         let implication = self.book.pair(5, from, goal)?;
-        let premises = [self.prove(implication)?, self.prove(from)?];
+        let premises = [self.premise(implication)?, self.prove(from)?];
         self.step(IMPLIED, goal, ABSENT, &premises)
     }
 
@@ -392,7 +427,7 @@ impl Maker<'_> {
     /// "Action X each use", or once, "then" the goal.
     fn demand(&mut self, mark: u16, action: u16, goal: u16) -> Option<u16> {
         let demand = self.book.pair(mark as u8 + 5, action, goal)?;
-        self.prove(demand)
+        self.premise(demand)
     }
 
     fn by_obligation(&mut self, goal: u16) -> Option<u16> {
@@ -435,7 +470,8 @@ impl Maker<'_> {
         let found = (0..32).map(|index| parameter(sort, index));
         let mut found = found.filter(|argument| stale(self, *argument) == wanted);
         let argument = found.next().or_else(|| wanted.then_some(parameter(sort, 0)))?;
-        let body = self.book.instance(goal, argument)?;
+        let put_in = self.argument(argument);
+        let body = self.book.instance(goal, put_in)?;
         let premise = self.prove(body)?;
         self.step(FOR_ALL, goal, argument, &[premise])
     }
@@ -450,7 +486,8 @@ impl Maker<'_> {
         let argument = self.random.pick(&arguments);
         let random = &mut *self.random;
         let general = self.book.generalised(goal, argument, || !random.one_in(3))?;
-        let premise = self.prove(general)?;
+        let premise = self.premise(general)?;
+        let argument = self.argument(argument);
         self.step(INSTANCE, goal, argument, &[premise])
     }
 }

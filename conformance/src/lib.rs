@@ -1,4 +1,5 @@
-//! A separate, plain checker of case files, written from document 01 alone, and what tests it.
+//! A separate, plain checker of case files, written from documents 01 and 02 alone, and what tests
+//! it.
 
 #![deny(unsafe_code)]
 
@@ -12,6 +13,7 @@ pub mod full_size;
 pub mod interned;
 pub mod justifications;
 pub mod loads;
+pub mod misfits;
 pub mod mutator;
 pub mod output;
 pub mod pack;

@@ -35,6 +35,9 @@ pub fn loads() -> Vec<Load> {
         load("rule 14, 32 wide labels open", open_labels(wide)),
         load("rule 14, 32 deep labels open", open_labels(deep)),
         load("rule 14, 32 nested labels open", open_labels(nested)),
+        load("rule 5, 24 at the last step", owners_refused(|rounds| rounds.p)),
+        load("rule 5, 25 at the last step", owners_refused(|rounds| rounds.pair(1, 1, data(15)))),
+        load("rule 15, 26 at the last step", instances_refused()),
     ]
 }
 
@@ -261,6 +264,52 @@ fn close_label(rounds: &mut Rounds, label: u16) {
     let seen = rounds.step(SEEN, said, row, &[]);
     let given = rounds.step(SAYS, formula, ABSENT, &[seen]);
     rounds.last = rounds.step(IMPLIED, rounds.p, ABSENT, &[closed, given]);
+}
+
+/// Rule 5 with 16 premises, again and again. The last time its last premise is another formula, and
+/// is found out after all that come before it.
+fn owners_refused(other: fn(&mut Rounds) -> u16) -> CaseFile {
+    let mut rounds = Rounds::new();
+    let owned: Vec<u16> = (0..16).map(|k| rounds.pair(1, AGENT, data(k))).collect();
+    let all = owned[1..].iter().fold(owned[0], |all, one| rounds.pair(3, all, *one));
+    let said = rounds.says(AGENT, all, 1);
+    for (label, formula) in (0..).zip(owned) {
+        rounds.case.labels[label] = (0, formula);
+    }
+    let other = other(&mut rounds);
+    rounds.case.labels[16] = (0, other);
+    while rounds.case.steps.len() + 2 * 17 <= 2_048 {
+        owner_step(&mut rounds, said, 0..16);
+    }
+    owner_step(&mut rounds, said, (0..15).chain([16]));
+    filled(rounds)
+}
+
+/// An owner step from what these labels suppose.
+fn owner_step(rounds: &mut Rounds, said: u16, labels: impl Iterator<Item = u16>) {
+    let suppose = |label: u16| {
+        let formula = rounds.case.labels[label as usize].1;
+        rounds.step(SUPPOSE, formula, label, &[])
+    };
+    let premises: Vec<u16> = labels.map(suppose).collect();
+    rounds.step(OWNER, said, ABSENT, &premises);
+}
+
+/// Rule 15 at every second step, from a for-all of 64 nodes. The argument of the last one gives
+/// another formula, which differs in the innermost leaf only.
+fn instances_refused() -> CaseFile {
+    let mut rounds = Rounds::new();
+    let leaf = rounds.book.add(0, 1, [data(0), ABSENT, ABSENT]).expect("a leaf is small");
+    let body = (0..62).fold(leaf, |policy, _| rounds.says(1, policy, 2));
+    let general = rounds.book.generalised(body, data(0), || true).expect("64 nodes");
+    rounds.case.labels[0] = (0, general);
+    while rounds.case.steps.len() + 2 <= 2_048 {
+        let supposed = rounds.step(SUPPOSE, general, 0, &[]);
+        rounds.step(INSTANCE, body, data(0), &[supposed]);
+    }
+    let last = rounds.case.steps.last_mut().expect("there are steps");
+    last.argument = data(1);
+    filled(rounds)
 }
 
 // ---- Growth ----

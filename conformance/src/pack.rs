@@ -9,7 +9,7 @@ use crate::justifications::{passing, slipping};
 use crate::loads::loads;
 use crate::random::{damage, Random};
 
-/// The examples, the base vectors, and the loads.
+/// The examples, the vectors, and the loads.
 pub fn known_files() -> Vec<Vec<u8>> {
     let vectors = examples_and_vectors().into_iter().chain(examples::all());
     let loads = loads().into_iter().map(|load| load.case.to_bytes());

@@ -6,7 +6,7 @@ use std::thread;
 use conformance::builder::{data, CaseFile, FormulaRow, LogRow, Step};
 use conformance::cases::{examples_and_vectors, grant, twice, visit};
 use conformance::checker::{admit, ABSENT, HEADER_BYTES, PARTS};
-use conformance::desk::words::{number_of, refusals};
+use conformance::desk::words::refusals;
 use conformance::proved;
 use conformance::random::{damage, fitting_book, Random};
 

@@ -1,5 +1,6 @@
 //! Case files as text: there and back to the same bytes, the readable form, and faults by line.
 
+use std::collections::BTreeSet;
 use std::fs;
 use std::process::{Command, Output};
 
@@ -7,10 +8,11 @@ use conformance::builder::{CaseFile, FormulaRow};
 use conformance::cases::{examples_and_vectors, grant, ROOM};
 use conformance::checker::{check, Verdict, ABSENT, HEADER_BYTES, PARTS};
 use conformance::damages::damaged;
-use conformance::desk::{records::RULES, show::show, text::text, write::write};
+use conformance::desk::{records::RULES, show::show, text::text, words, write::write};
 use conformance::examples::{all, folder};
 use conformance::full_size::full_size;
 use conformance::justifications::{passing, slipping};
+use conformance::misfits;
 use conformance::random::{damage, Random};
 use conformance::streams;
 
@@ -35,6 +37,37 @@ fn every_example_and_vector() {
     let vectors = examples_and_vectors().into_iter().chain(all());
     let sound = vectors.filter(|vector| assert_there_and_back(&vector.file)).count();
     assert!(sound > 350, "{sound}");
+}
+
+/// Each misfit that the header tells by the rule is shown in its words, which name the rule.
+#[test]
+fn misfits_by_rule() {
+    let mut told = BTreeSet::new();
+    for case in misfits::misfits() {
+        let shown = show(&case.file);
+        let found = words::step_faults().iter().filter(|fault| shown.contains(&fault.wrong));
+        told.extend(found.map(|fault| (fault.number, fault.rule)));
+    }
+    let listed = words::step_faults().iter().map(|fault| (fault.number, fault.rule));
+    assert_eq!(told, listed.collect());
+    for fault in words::step_faults() {
+        let (name, _) = RULES[fault.rule as usize];
+        let name = match name {
+            "for all by" | "instance by" => name.trim_end_matches(" by"),
+            _ => name,
+        };
+        let rule = format!("rule {} ({name})", fault.rule);
+        assert!(fault.wrong.contains(&rule), "{}", fault.wrong);
+    }
+}
+
+/// A misfit of another rule than those that the header lists has the general words.
+#[test]
+fn misfits_in_general() {
+    let general = words::meaning(25);
+    let verdict = Verdict::Refused { number: 25, place: 0 };
+    let said = words::words(&grant().to_bytes(), verdict, &[]);
+    assert_eq!(said, [format!("{} 0: {}", general.counts, general.wrong)]);
 }
 
 #[test]

@@ -6,7 +6,7 @@ use conformance::builder::{CaseFile, LogRow};
 use conformance::cases::grant;
 use conformance::checker::{admit, check, strike_unseen, Verdict, ABSENT};
 use conformance::damages::damage_case;
-use conformance::desk::words::refusals;
+use conformance::desk::words::{number_of, refusals};
 use conformance::justifications::{citing_hidden_rows, others, passing, slipping};
 use conformance::proved;
 use conformance::random::Random;
@@ -114,6 +114,8 @@ fn pairs_alike_to_the_agent() {
     println!("{turn} pairs, {differ} differ, {passed} passed, refused {refused:?}");
     assert!(turn < 25_000 && differ > 15_000, "{turn}, {differ}");
     assert!(passed > 3_000 && refused[&16] > 3_000, "{passed}, {refused:?}");
+    let misfits = ["WRONG_PREMISE_KIND", "WRONG_PARTY", "WRONG_INSTANCE"].map(number_of);
+    assert!(misfits.iter().all(|number| refused[number] >= 100), "{refused:?}");
     let listed: BTreeSet<u16> = refusals().iter().map(|refusal| refusal.number).collect();
     let due = listed.difference(&BTreeSet::from([1, 2, 5])).copied().collect();
     assert_eq!(refused.into_keys().collect::<BTreeSet<u16>>(), due);

@@ -12,8 +12,9 @@ use std::process::{Child, Command, Output, Stdio};
 
 use conformance::cases::{self, ROOM};
 use conformance::checker::{Verdict, MOST_BYTES};
-use conformance::desk::words::{refusals, words};
+use conformance::desk::words::{self, refusals};
 use conformance::examples::{all, folder, output};
+use conformance::misfits;
 use conformance::rooms::room_too_short;
 use conformance::streams;
 use conformance::vectors::Vector;
@@ -80,6 +81,11 @@ fn manual_in_the_header() {
     assert_eq!(told.collect::<Vec<u16>>(), listed.collect::<Vec<u16>>());
 }
 
+/// The words of the separate checker's side.
+fn said(example: &Vector) -> Vec<String> {
+    words::words(&example.file, example.verdict, &example.written)
+}
+
 /// The exit status, the verdict in the first line, and then the words that `show-case` has too.
 fn assert_console_says(output: &Output, example: &Vector) {
     let status = match example.verdict {
@@ -91,7 +97,7 @@ fn assert_console_says(output: &Output, example: &Vector) {
     let text = String::from_utf8_lossy(&output.stdout);
     let lines: Vec<&str> = text.lines().collect();
     assert_eq!(lines[0], example.verdict.to_string(), "{}", example.name);
-    assert_eq!(lines[1..], words(example.verdict, &example.written), "{}", example.name);
+    assert_eq!(lines[1..], said(example), "{}", example.name);
 }
 
 #[test]
@@ -119,6 +125,22 @@ fn console_on_every_refusal() {
     assert_eq!(said, refusals().iter().map(|refusal| refusal.number).collect());
 }
 
+/// The console tells a misfit by the rule of the step, in the words that the header has for it.
+#[test]
+fn console_on_every_misfit() {
+    let console = console("misfits");
+    let mut told = BTreeSet::new();
+    for case in misfits::misfits() {
+        let output = run(&console, &case.file);
+        assert_console_says(&output, &case);
+        let text = printed(output);
+        let found = words::step_faults().iter().filter(|fault| text.contains(&fault.wrong));
+        told.extend(found.map(|fault| (fault.number, fault.rule)));
+    }
+    let listed = words::step_faults().iter().map(|fault| (fault.number, fault.rule));
+    assert_eq!(told, listed.collect());
+}
+
 #[test]
 fn console_words() {
     let console = console("words");
@@ -139,6 +161,9 @@ fn console_words() {
     says(&example("creator"), "This action asks nothing of this agent.");
     says(&example("twice"), "Step 5: a duty owed at each use is used twice.");
     says(&example("supposed"), "Label 0: it is still open at the end.");
+    let swapped =
+        "Step 3: the first premise of rule 10 (implied) is no implication, \"F implies G\".";
+    says(&example("visit-premises-swapped"), swapped);
 }
 
 /// Runs a program over a file that is longer than any case, and tells how many bytes it has read.

@@ -6,8 +6,8 @@ use conformance::checker::{check, Verdict, ABSENT};
 
 const HOLDS: u16 = 0;
 
-/// The number that the last step is refused with by checks 12 to 19. No case here proves what is
-/// owed, so one whose steps all hold falls at 20 to 22.
+/// The number that the last step is refused with by the checks of a step. No case here proves what
+/// is owed, so one whose steps all hold falls at 20 to 22.
 fn last_step(case: &CaseFile) -> u16 {
     let file = case.to_bytes();
     #[cfg(feature = "proved")]
@@ -27,6 +27,7 @@ fn scene() -> CaseFile {
     CaseFile::new(1)
         .formula("goal", user_action(99, &[1]))
         .audits("goal")
+        .formula("none gives it", predicate(98, &[]))
         .formula("p", predicate(1, &[]))
         .formula("q", predicate(2, &[]))
         .formula("p and q", and("p", "q"))
@@ -43,15 +44,9 @@ fn scene() -> CaseFile {
         .formula("2 says q to 2", says(2, "q", 2))
 }
 
-/// Supposes each premise, by a label of its own after those of the case, then takes the step.
+/// The number for a step whose premises are supposed.
 fn step(case: CaseFile, rule: u16, premises: &[&str], argument: u16, formula: &str) -> u16 {
-    let mut case = case;
-    for premise in premises {
-        let label = case.labels.len() as u16;
-        case = case.label(0, premise).step(SUPPOSE, premise, label, &[]);
-    }
-    let earlier: Vec<u16> = (0..premises.len() as u16).collect();
-    last_step(&case.step(rule, formula, argument, &earlier))
+    last_step(&case.step_from(rule, premises, argument, formula))
 }
 
 #[test]
@@ -104,21 +99,29 @@ fn seen() {
     assert_eq!(step(logged().change(strike), SEEN, &[], 4, "2 says p to 1"), 16);
 }
 
+/// The wrong party is the premise's target in rule 3, the source of the second in rule 4. Its own
+/// formula with another source, or another target, is a misfit.
 #[test]
 fn says_and_refine() {
     assert_eq!(step(scene(), SAYS, &["2 says p to 1"], ABSENT, "p"), HOLDS);
-    assert_eq!(step(scene(), SAYS, &["2 says p to 2"], ABSENT, "p"), 18);
+    assert_eq!(step(scene(), SAYS, &["2 says p to 2"], ABSENT, "p"), 25);
+    assert_eq!(step(scene(), SAYS, &["1 says p to 2"], ABSENT, "p"), 25);
+    assert_eq!(step(scene(), SAYS, &["2 says p to 2"], ABSENT, "q"), 25);
     assert_eq!(step(scene(), SAYS, &["2 says p to 1"], ABSENT, "q"), 18);
     assert_eq!(step(scene(), SAYS, &["2 says p to 1"], 0, "p"), 12);
     let refine = |said, formula| step(scene(), REFINE, &["p implies q", said], ABSENT, formula);
     assert_eq!(refine("1 says p to 2", "1 says q to 2"), HOLDS);
     assert_eq!(refine("1 says p to 2", "1 says q to 3"), 18);
     assert_eq!(refine("1 says p to 2", "1 says p to 2"), 18);
+    assert_eq!(refine("1 says p to 2", "2 says q to 2"), 18);
+    assert_eq!(refine("1 says p to 2", "q"), 18);
     assert_eq!(refine("1 says q to 2", "1 says q to 2"), 18);
-    assert_eq!(refine("2 says p to 2", "2 says q to 2"), 18);
-    assert_eq!(refine("2 says p to 2", "1 says q to 2"), 18);
+    assert_eq!(refine("2 says p to 2", "2 says q to 2"), 25);
+    assert_eq!(refine("2 says p to 2", "1 says q to 2"), 25);
+    assert_eq!(refine("2 says p to 1", "1 says q to 2"), 25);
+    assert_eq!(refine("2 says q to 2", "1 says q to 3"), 25);
     let swapped = ["1 says p to 2", "p implies q"];
-    assert_eq!(step(scene(), REFINE, &swapped, ABSENT, "1 says q to 2"), 18);
+    assert_eq!(step(scene(), REFINE, &swapped, ABSENT, "1 says q to 2"), 24);
 }
 
 /// Formulas for the owner rule. Data 1 stands inside an action only.
@@ -142,6 +145,7 @@ fn owner_scene() -> CaseFile {
         .formula("1 says no x", says(1, "for no x", 2))
 }
 
+/// The wrong party is any premise's owner. The step's own formula by another agent is a misfit.
 #[test]
 fn owner() {
     let owner = |premises: &[&str], formula| step(owner_scene(), OWNER, premises, ABSENT, formula);
@@ -151,7 +155,13 @@ fn owner() {
     assert_eq!(owner(&["1 owns 0"], "1 says 0"), HOLDS);
     assert_eq!(owner(&["1 owns 0", "1 owns 0"], "1 says 0"), 18);
     assert_eq!(owner(&["1 owns 0", "1 owns 1"], "1 says 0"), 18);
-    assert_eq!(owner(&["2 owns 0"], "1 says 0"), 18);
+    assert_eq!(owner(&["2 owns 0"], "1 says 0"), 25);
+    assert_eq!(owner(&["2 owns 0"], "2 says 0"), 25);
+    assert_eq!(owner(&["1 owns 0", "2 owns 0"], "1 says 0"), 25);
+    assert_eq!(owner(&["1 owns 0", "1 owns 1", "2 owns 0"], "1 says all"), 25);
+    let mut all_but_the_last = ["1 owns 0"; 16];
+    all_but_the_last[15] = "2 owns 0";
+    assert_eq!(owner(&all_but_the_last, "1 says 0"), 25);
     assert_eq!(owner(&["1 owns 0"], "2 says 0"), 18);
     assert_eq!(owner(&["1 owns 0"], "of 0"), 18);
     assert_eq!(owner(&["1 owns 0"], "1 says x"), 18);
@@ -170,9 +180,9 @@ fn and_implies() {
     assert_eq!(step(scene(), LEFT, &["p and q"], ABSENT, "q"), 18);
     assert_eq!(step(scene(), RIGHT, &["p and q"], ABSENT, "q"), HOLDS);
     assert_eq!(step(scene(), RIGHT, &["p and q"], ABSENT, "p"), 18);
-    assert_eq!(step(scene(), LEFT, &["p implies q"], ABSENT, "p"), 18);
+    assert_eq!(step(scene(), LEFT, &["p implies q"], ABSENT, "p"), 24);
     assert_eq!(step(scene(), IMPLIED, &["p implies q", "p"], ABSENT, "q"), HOLDS);
-    assert_eq!(step(scene(), IMPLIED, &["p", "p implies q"], ABSENT, "q"), 18);
+    assert_eq!(step(scene(), IMPLIED, &["p", "p implies q"], ABSENT, "q"), 24);
     assert_eq!(step(scene(), IMPLIED, &["p implies q", "q"], ABSENT, "q"), 18);
     let labelled = || scene().label(0, "p").label(1, "act");
     let implies =
@@ -231,7 +241,7 @@ fn nested(mark: u16, second: u16) -> CaseFile {
 }
 
 /// Twin labels are two; a label met once for all uses may stand open in two premises; a closed
-/// label is open no longer; and 17 comes before 18.
+/// label is open no longer; and 17 comes before a misfit.
 #[test]
 fn each_use_labels() {
     let joined = |mark, demand, second, formula| {
@@ -260,14 +270,14 @@ fn each_use_label_in_two_premises() {
         let joined = |second| {
             last_step(&met_twice(1, "act each use, p", second).step(rule, formula, ABSENT, &[1, 3]))
         };
-        let fits = if rule == AND { HOLDS } else { 18 };
+        let fits = if rule == AND { HOLDS } else { 24 };
         assert_eq!([1, 2].map(joined), [17, fits]);
     }
     let between = |second| {
         let met = met_twice(1, "act each use, p", second).step(SUPPOSE, "act each use, p", 0, &[]);
         last_step(&met.step(OWNER, "1 says p to 2", ABSENT, &[1, 4, 3]))
     };
-    assert_eq!([1, 2].map(between), [17, 18]);
+    assert_eq!([1, 2].map(between), [17, 24]);
 }
 
 /// Formulas for the rules of for-all: "r" of two agents, "s" of a data object.
@@ -290,51 +300,104 @@ fn for_all_scene() -> CaseFile {
         .formula("r a implies r a", implies("r a a", "r a a"))
         .formula("r x implies r x", implies("r x x", "r x x"))
         .formula("all r implies r", for_all_agents("r x implies r x"))
+        .formula("s 0", predicate(6, &[data(0)]))
+        .formula("s 1", predicate(6, &[data(1)]))
+        .formula("s d", predicate(6, &[data_parameter(0)]))
+        .formula("s x", predicate(6, &[data_variable(0)]))
+        .formula("all s", for_all_data("s x"))
 }
+
+/// Numbers next to the ranges of terms, which are none, and one far from them.
+const NO_TERMS: [u16; 4] = [32_832, 40_959, 40_976, 65_534];
 
 #[test]
 fn instance() {
     let instance =
         |premise, argument, formula| step(for_all_scene(), INSTANCE, &[premise], argument, formula);
     assert_eq!(instance("all r x x", 3, "r 3 3"), HOLDS);
-    assert_eq!(instance("all r x x", 3, "r 3 4"), 18);
-    assert_eq!(instance("all r x x", 4, "r 3 3"), 18);
+    assert_eq!(instance("all r x x", 3, "r 3 4"), 26);
+    assert_eq!(instance("all r x x", 4, "r 3 3"), 26);
+    assert_eq!(instance("all r x x", agent_parameter(0), "r 3 3"), 26);
+    assert_eq!(instance("all r x x", 3, "p"), 26);
+    assert_eq!(instance("all r x x", 3, "all r x x"), 26);
     assert_eq!(instance("all r x x", agent_parameter(0), "r a a"), HOLDS);
     assert_eq!(instance("all r x a", agent_parameter(0), "r a a"), HOLDS);
     assert_eq!(instance("all y", 3, "all r 3 x"), HOLDS);
+    assert_eq!(instance("all y", 3, "all r x x"), 26);
     assert_eq!(instance("all p", 3, "p"), HOLDS);
-    for argument in [data(0), data_parameter(0), agent_variable(0), 65_534] {
-        assert_eq!(instance("all p", argument, "p"), 18);
-    }
+    assert_eq!(instance("all p", 3, "q"), 26);
+    assert_eq!(instance("all s", data(0), "s 0"), HOLDS);
+    assert_eq!(instance("all s", data(0), "s 1"), 26);
+    assert_eq!(instance("all s", data_parameter(0), "s d"), HOLDS);
+    assert_eq!(instance("all s", data_parameter(1), "s d"), 26);
     assert_eq!(instance("all p", ABSENT, "p"), 14);
+}
+
+/// Of another sort, a variable or no term: 18, whether the bodies agree or not.
+#[test]
+fn instance_by_an_argument_not_admitted() {
+    let instance =
+        |premise, argument, formula| step(for_all_scene(), INSTANCE, &[premise], argument, formula);
+    let variables = [agent_variable(0), agent_variable(7), data_variable(0), data_variable(7)];
+    for argument in [data(0), data_parameter(0)].into_iter().chain(variables).chain(NO_TERMS) {
+        assert_eq!(instance("all p", argument, "p"), 18);
+        assert_eq!(instance("all r x x", argument, "r 3 4"), 18);
+        assert_eq!(instance("p and q", argument, "r 3 4"), 24);
+    }
+    for argument in [3, agent_parameter(0)].into_iter().chain(variables).chain(NO_TERMS) {
+        assert_eq!(instance("all s", argument, "s 0"), 18);
+    }
+}
+
+/// A condition, and a for-all step from it.
+fn for_all_from(premise: &str, argument: u16, formula: &str) -> u16 {
+    let given = for_all_scene().condition(premise).step(CONDITION, premise, 0, &[]);
+    last_step(&given.step(FOR_ALL, formula, argument, &[0]))
 }
 
 #[test]
 fn for_all() {
-    let given = || for_all_scene().condition("p").condition("r 3 3");
-    let for_all = |premise: &str, entry, argument, formula| {
-        let case = given().step(CONDITION, premise, entry, &[]);
-        last_step(&case.step(FOR_ALL, formula, argument, &[0]))
-    };
-    assert_eq!(for_all("p", 0, agent_parameter(0), "all p"), HOLDS);
-    assert_eq!(for_all("p", 0, data_parameter(0), "all p"), 18);
-    assert_eq!(for_all("p", 0, 3, "all p"), 18);
-    assert_eq!(for_all("p", 0, ABSENT, "all p"), 14);
-    assert_eq!(for_all("r 3 3", 1, 3, "all r x x"), 18);
+    let a = agent_parameter(0);
+    assert_eq!(for_all_from("p", a, "all p"), HOLDS);
+    assert_eq!(for_all_from("q", a, "all p"), 26);
+    assert_eq!(for_all_from("r 3 3", a, "all r x x"), 26);
+    assert_eq!(for_all_from("p", a, "p"), 18);
+    assert_eq!(for_all_from("p", a, "q"), 18);
+    assert_eq!(for_all_from("p", a, "p and q"), 18);
+    assert_eq!(for_all_from("s 0", data_parameter(0), "all s"), 26);
+    assert_eq!(for_all_from("p", ABSENT, "all p"), 14);
+}
+
+/// No parameter, or one of the other sort: 18, whether the bodies agree or not.
+#[test]
+fn for_all_by_an_argument_not_admitted() {
+    let variables = [agent_variable(0), data_variable(0)];
+    let others = [3, data(0), data_parameter(0)].into_iter().chain(variables).chain(NO_TERMS);
+    for argument in others {
+        assert_eq!(for_all_from("p", argument, "all p"), 18);
+        assert_eq!(for_all_from("r 3 3", argument, "all r x x"), 18);
+        assert_eq!(for_all_from("q", argument, "all p"), 18);
+    }
+    assert_eq!(for_all_from("s 0", agent_parameter(0), "all s"), 18);
+    assert_eq!(for_all_from("s 0", data(0), "all s"), 18);
 }
 
 /// The parameter may stand in a label that is closed by then, in none that is open, and not in
-/// the formula.
+/// the formula; a wrong instance and a misfit come before that.
 #[test]
 fn fresh_parameters() {
     let a = agent_parameter(0);
     let supposed = for_all_scene().label(0, "r a a").step(SUPPOSE, "r a a", 0, &[]);
     let open = supposed.clone().step(FOR_ALL, "all r x x", a, &[0]);
     assert_eq!(last_step(&open), 19);
-    let misfit = supposed.clone().step(FOR_ALL, "all p", a, &[0]);
-    assert_eq!(last_step(&misfit), 18);
-    let other = supposed.clone().step(FOR_ALL, "all r x x", agent_parameter(1), &[0]);
-    assert_eq!(last_step(&other), 18);
+    for (formula, argument) in
+        [("all p", a), ("all r x x", agent_parameter(1)), ("all r x a", agent_parameter(1))]
+    {
+        let other = supposed.clone().step(FOR_ALL, formula, argument, &[0]);
+        assert_eq!(last_step(&other), 26);
+    }
+    let no_for_all = supposed.clone().step(FOR_ALL, "r a a", a, &[0]);
+    assert_eq!(last_step(&no_for_all), 18);
     let closed = supposed.step(IMPLIES_FROM_LABEL, "r a implies r a", 0, &[0]);
     let fresh = closed.step(FOR_ALL, "all r implies r", a, &[1]);
     assert_eq!(last_step(&fresh), HOLDS);
@@ -342,6 +405,108 @@ fn fresh_parameters() {
     let instance = all.step(INSTANCE, "r a a", a, &[0]);
     assert_eq!(last_step(&instance.clone().step(FOR_ALL, "all r x x", a, &[1])), HOLDS);
     assert_eq!(last_step(&instance.step(FOR_ALL, "all r x a", a, &[1])), 19);
+}
+
+/// A formula of each policy kind, none of which gives another by a rule below.
+const KINDS: [(&str, u8); 8] = [
+    ("r 3 4", 0),
+    ("1 owns 0", 1),
+    ("2 says p to 1", 2),
+    ("p and q", 3),
+    ("all r x x", 4),
+    ("p implies q", 5),
+    ("act each use, p", 6),
+    ("act once, p", 7),
+];
+
+const ANY: [u8; 8] = [0, 1, 2, 3, 4, 5, 6, 7];
+
+/// A step whose premise at one place is of each kind in turn, and whose formula no rule gives: 24
+/// for the kinds that are not asked for, and the number due for the others.
+fn assert_kinds(
+    (rule, argument): (u16, u16),
+    premises: &[&str],
+    place: usize,
+    asked: &[u8],
+    due: u16,
+) {
+    for (formula, kind) in KINDS {
+        let mut premises = premises.to_vec();
+        premises[place] = formula;
+        let case = for_all_scene()
+            .formula("1 owns 0", owns(1, data(0)))
+            .obligation(1, "act")
+            .label(1, "act");
+        let number = step(case, rule, &premises, argument, "none gives it");
+        let expected = if asked.contains(&kind) { due } else { 24 };
+        assert_eq!(number, expected, "rule {rule}, kind {kind}");
+    }
+}
+
+#[test]
+fn premise_kinds() {
+    assert_kinds((SAYS, ABSENT), &[""], 0, &[2], 18);
+    assert_kinds((REFINE, ABSENT), &["", "1 says p to 2"], 0, &[5], 18);
+    assert_kinds((REFINE, ABSENT), &["p implies q", ""], 1, &[2], 25);
+    assert_kinds((OWNER, ABSENT), &[""], 0, &[1], 18);
+    assert_kinds((OWNER, ABSENT), &["1 owns 0", "1 owns 0", ""], 2, &[1], 18);
+    assert_kinds((OWNER, ABSENT), &["1 owns 0", "", "1 owns 0"], 1, &[1], 18);
+    assert_kinds((AND, ABSENT), &["", "q"], 0, &ANY, 18);
+    assert_kinds((AND, ABSENT), &["p", ""], 1, &ANY, 18);
+    assert_kinds((LEFT, ABSENT), &[""], 0, &[3], 18);
+    assert_kinds((RIGHT, ABSENT), &[""], 0, &[3], 18);
+    assert_kinds((IMPLIES_FROM_LABEL, 1), &[""], 0, &ANY, 18);
+    assert_kinds((IMPLIED, ABSENT), &["", "p"], 0, &[5], 18);
+    assert_kinds((IMPLIED, ABSENT), &["p implies q", ""], 1, &ANY, 18);
+    assert_kinds((OBLIGES_FROM_LABEL, 0), &[""], 0, &ANY, 18);
+    assert_kinds((BY_OBLIGATION, 0), &[""], 0, &[6, 7], 18);
+    assert_kinds((BY_LABEL, 0), &[""], 0, &[6, 7], 18);
+    assert_kinds((FOR_ALL, agent_parameter(0)), &[""], 0, &ANY, 18);
+    assert_kinds((INSTANCE, 3), &[""], 0, &[4], 26);
+    for (formula, _) in KINDS {
+        let case = for_all_scene().formula("1 owns 0", owns(1, data(0)));
+        assert_eq!(step(case, FOR_ALL, &[formula], agent_parameter(1), "all p"), 26);
+    }
+}
+
+/// The other of kinds 6 and 7 is no wrong kind, whatever else is at fault.
+#[test]
+fn marks_that_do_not_match() {
+    let given = || scene().obligation(1, "act").label(2, "act").label(0, "p");
+    assert_eq!(step(given(), BY_OBLIGATION, &["act once, p"], 0, "p"), 18);
+    assert_eq!(step(given(), BY_OBLIGATION, &["act once, p"], 0, "q"), 18);
+    assert_eq!(step(given(), BY_LABEL, &["act each use, p"], 0, "p"), 18);
+    assert_eq!(step(given(), BY_LABEL, &["act each use, p"], 1, "p"), 18);
+    assert_eq!(step(given(), BY_OBLIGATION, &["p"], 0, "p"), 24);
+    assert_eq!(step(given(), BY_LABEL, &["p"], 1, "p"), 24);
+}
+
+/// Of several faults the first in the order of the checks is told: 17, 24, 25, 26, 18.
+#[test]
+fn several_faults() {
+    let at = |rule, premises: &[&str], argument, formula| {
+        step(owner_scene(), rule, premises, argument, formula)
+    };
+    // A wrong kind beside a wrong party, before and after it.
+    assert_eq!(at(OWNER, &["2 owns 0", "p"], ABSENT, "1 says 0"), 24);
+    assert_eq!(at(OWNER, &["p", "2 owns 0"], ABSENT, "1 says 0"), 24);
+    assert_eq!(at(REFINE, &["p", "2 says p to 2"], ABSENT, "1 says q to 2"), 24);
+    // A wrong kind or party, and a formula that the rule would not give either.
+    assert_eq!(at(SAYS, &["p"], ABSENT, "q"), 24);
+    assert_eq!(at(OWNER, &["2 owns 0"], ABSENT, "of 0"), 25);
+    assert_eq!(at(OWNER, &["1 owns 1", "2 owns 0"], ABSENT, "1 says 0"), 25);
+    assert_eq!(at(REFINE, &["p implies q", "2 says q to 2"], ABSENT, "q"), 25);
+    // An each-use label open twice, and premises of a wrong kind.
+    let twice = met_twice(1, "act each use, p", 1).step(REFINE, "p", ABSENT, &[1, 3]);
+    assert_eq!(last_step(&twice), 17);
+    // An obligation cited a second time, for a premise of a wrong kind.
+    let cited = scene()
+        .obligation(1, "act")
+        .label(0, "act each use, p")
+        .step(SUPPOSE, "act each use, p", 0, &[])
+        .step(BY_OBLIGATION, "p", 0, &[0])
+        .step(BY_OBLIGATION, "p", 0, &[1]);
+    assert_eq!(last_step(&cited), 17);
 }
 
 #[test]

@@ -3,14 +3,16 @@
 use std::collections::{BTreeMap, BTreeSet};
 use std::thread;
 
-use conformance::builder::{data, CaseFile, Step};
+use conformance::builder::{data, CaseFile, Step, LEFT};
 use conformance::cases::{examples_and_vectors, ROOM};
 use conformance::checker::{check, Verdict, ABSENT, MOST_BYTES};
 use conformance::damages::{damaged, WAYS};
-use conformance::desk::words::refusals;
+use conformance::desk::reading::read;
+use conformance::desk::words::{number_of, refusals, step_faults};
 use conformance::examples;
 use conformance::full_size::full_size;
 use conformance::justifications::{passing, slipping};
+use conformance::loads::loads;
 use conformance::proved;
 use conformance::random::Random;
 use conformance::rooms::{agreed, agreed_in_all_rooms, answer, room_too_short, PATTERN};
@@ -47,9 +49,19 @@ fn count(answers: &mut Answers, verdict: Verdict) {
 fn random_file(turn: usize, random: &mut Random) -> (&'static str, Vec<u8>) {
     match turn % 8 {
         0..=2 => ("passing", passing(random).to_bytes()),
-        3 => ("slipping", slipping(random).to_bytes()),
-        4 => damaged(&slipping(random), random),
+        3 | 4 => ("slipping", slipping(random).to_bytes()),
+        5 => damaged(&slipping(random), random),
         _ => damaged(&passing(random), random),
+    }
+}
+
+/// 24, 25 and 26 come only with the rules for which the header has words.
+fn assert_step_fault(file: &[u8], verdict: Verdict) {
+    let Verdict::Refused { number, place } = verdict else { return };
+    if step_faults().iter().any(|fault| fault.number == number) {
+        let rule = read(file).expect("it is sound").case.steps[place as usize].rule;
+        let told = step_faults().iter().any(|fault| (fault.number, fault.rule) == (number, rule));
+        assert!(told, "{number} by rule {rule}");
     }
 }
 
@@ -60,12 +72,21 @@ fn run(seed: u64, turns: usize) -> (Answers, BTreeMap<&'static str, usize>) {
     for turn in 0..turns {
         let (way, file) = random_file(turn, &mut random);
         let verdict = agreed_in_all_rooms(&file);
+        assert_step_fault(&file, verdict);
         count(&mut answers, verdict);
         let times = refused.entry(way).or_insert(0);
         *times += usize::from(matches!(verdict, Verdict::Refused { .. }));
     }
     (answers, refused)
 }
+
+/// Misfits of every number come this often in the random files.
+const OFTEN: [(&str, usize); 4] = [
+    ("WRONG_PREMISE_KIND", 3_000),
+    ("WRONG_PARTY", 3_000),
+    ("WRONG_INSTANCE", 3_000),
+    ("MISFIT", 1_000),
+];
 
 /// 300,000 files in two threads. Every refusal comes often, and each kind of damage is refused at
 /// times; what is made to pass does.
@@ -86,6 +107,8 @@ fn random_justifications() {
     let due = refusals().iter().map(|refusal| refusal.number).chain([NONE_OWED]);
     assert!(due.clone().all(|number| answers.get(&number) >= Some(&300)), "{answers:?}");
     assert_eq!(answers.len(), 1 + due.count(), "{answers:?}");
+    let comes = |(name, times): (&str, usize)| answers[&number_of(name)] >= times;
+    assert!(OFTEN.into_iter().all(comes), "{answers:?}");
     assert_eq!(refused.remove("passing"), Some(0));
     assert_eq!(refused.len(), 1 + WAYS, "{refused:?}");
     assert!(refused.values().all(|times| *times >= 100), "{refused:?}");
@@ -131,6 +154,8 @@ fn full_size_files() {
     refused(whole, 12, last);
     refused(change(|step| step.premises[0] = 0), 13, last);
     refused(change(|step| step.argument = ABSENT), 14, last);
+    refused(change(|step| (step.rule, step.argument) = (LEFT, ABSENT)), 24, last);
+    refused(change(|step| step.formula = 2), 26, last);
     refused(change(|step| step.argument = data(0)), 18, last);
     refused(full.clone().change(|case| case.action = other_action(case)), 22, last);
 }
@@ -144,11 +169,20 @@ fn other_action(case: &mut CaseFile) -> u16 {
     1_023
 }
 
-/// A stack of 64 KiB is enough for the largest files, with the thread's own frames.
+/// A stack of 64 KiB is enough for the largest files, with the thread's own frames; also for those
+/// whose last step is a misfit.
 #[test]
 fn stack_of_64_kib() {
     let last_refused = full_size().change(|case| case.steps[2_047].argument = ABSENT);
-    for file in [full_size().to_bytes(), last_refused.to_bytes()] {
+    let misfits = loads().into_iter().filter(|load| load.name.ends_with("at the last step"));
+    let misfits: Vec<CaseFile> = misfits.map(|load| load.case).collect();
+    for (case, due) in misfits.iter().zip([24, 25, 26]) {
+        let place = case.steps.len() as u16 - 1;
+        refused(case.clone(), due, place);
+    }
+    assert_eq!(misfits.len(), 3);
+    let cases = misfits.into_iter().chain([full_size(), last_refused]);
+    for file in cases.map(|case| case.to_bytes()) {
         let expected = answer(check, &file, ROOM);
         let found = thread::Builder::new()
             .stack_size(64 * 1024)

@@ -27,8 +27,8 @@ impl Inference<'_> {
             11 => self.obliges_from_label(),
             12 => self.discharge_by(self.obligation()),
             13 => self.discharge_by(self.label()),
-            14 => self.for_all(),
-            15 => self.instance(),
+            14 => self.for_all() == Some(true),
+            15 => self.instance() == Some(true),
             _ => false,
         };
         self.ensure(fits, 18)
@@ -127,19 +127,26 @@ impl Inference<'_> {
     }
 
     /// 14 from the body with a parameter put in: for all; argument the parameter.
-    fn for_all(&self) -> bool {
-        matches!((Term::read(self.argument), &*self.formula), (Some(term), ForAll(sort, body))
-            if term.shape == Shape::Parameter
-                && term.sort == *sort
-                && *self.premise(0) == body.instance(term))
+    pub(super) fn for_all(&self) -> Option<bool> {
+        self.turns_into(&self.formula, self.premise(0), |shape| shape == Shape::Parameter)
     }
 
     /// 15 from for all: the body with the argument (agent, data or parameter of the sort).
-    fn instance(&self) -> bool {
-        matches!((Term::read(self.argument), self.premise(0)), (Some(term), ForAll(sort, body))
-            if term.shape != Shape::Variable
-                && term.sort == *sort
-                && *self.formula == body.instance(term))
+    pub(super) fn instance(&self) -> Option<bool> {
+        self.turns_into(self.premise(0), &self.formula, |shape| shape != Shape::Variable)
+    }
+
+    /// Whether the argument turns the body of this for-all into this instance. None if it is no
+    /// for-all, or the argument is not of its sort and of a shape that the rule admits.
+    fn turns_into(
+        &self,
+        for_all: &Formula,
+        instance: &Formula,
+        admits: fn(Shape) -> bool,
+    ) -> Option<bool> {
+        let ForAll(sort, body) = for_all else { return None };
+        let argument = Term::read_sort(self.argument, *sort).filter(|term| admits(term.shape))?;
+        Some(*instance == body.instance(argument))
     }
 }
 

@@ -1,4 +1,5 @@
-//! The steps of a justification, one after the other; checks 12 to 19, of which 18 is in `rules`.
+//! The steps of a justification, one after the other; checks 12 to 19 and 24 to 26, of which 18 is
+//! in `rules`, and 24 to 26 are in `misfits`.
 
 use std::collections::BTreeSet;
 use std::ops::{Range, RangeInclusive};
@@ -37,8 +38,8 @@ pub(super) struct Inference<'a> {
     pub(super) premises: Vec<&'a Proved>,
 }
 
-/// One step through 12 to 19. "One exception: at a seen step, 16 comes before 14 for a struck
-/// row."
+/// One step through its checks. "One exception: at a seen step, 16 comes before 14 for a struck
+/// row." And 24 to 26 are "tried in that order just before 18".
 pub(super) fn take_step(case: &Case, proof: &mut Proof) -> Result<(), Refusal> {
     let place = proof.proved.len();
     let (formula, span) = check_12(case, proof, place)?;
@@ -59,6 +60,9 @@ pub(super) fn take_step(case: &Case, proof: &mut Proof) -> Result<(), Refusal> {
     inference.check_16()?;
     inference.check_14_struck()?;
     inference.check_17(&proof.obligations)?;
+    inference.check_24()?;
+    inference.check_25()?;
+    inference.check_26()?;
     inference.check_18()?;
     inference.check_19()?;
     let open = inference.left_open();

@@ -26,7 +26,7 @@ pub fn show(file: &[u8]) -> String {
     let verdict = check(file, &mut room);
     writeln!(text, "\nVerdict: {verdict}").expect("a string takes any text");
     let points_at = view.and_then(|view| view.points_at(verdict));
-    for line in words(verdict, &room).into_iter().chain(points_at) {
+    for line in words(file, verdict, &room).into_iter().chain(points_at) {
         writeln!(text, "  {line}").expect("a string takes any text");
     }
     text

@@ -4,6 +4,8 @@ use std::sync::OnceLock;
 
 use crate::checker::Verdict;
 
+use super::reading::read;
+
 /// The parts of a file, by place.
 pub const PARTS: [&str; 8] = [
     "formulas",
@@ -25,10 +27,25 @@ pub struct Meaning {
     pub wrong: String,
 }
 
+/// What is wrong with a step of this rule, where the C header tells a refusal by the rule.
+pub struct StepFault {
+    pub number: u16,
+    pub rule: u16,
+    pub wrong: String,
+}
+
+const HEADER: &str = include_str!("../../../include/justification.h");
+
 /// The header's list, the first one first.
 pub fn refusals() -> &'static [Meaning] {
     static LISTED: OnceLock<Vec<Meaning>> = OnceLock::new();
-    LISTED.get_or_init(|| listed(include_str!("../../../include/justification.h")))
+    LISTED.get_or_init(|| entries("REFUSAL").map(refusal).collect())
+}
+
+/// The header's list of refusals that it tells by the rule.
+pub fn step_faults() -> &'static [StepFault] {
+    static LISTED: OnceLock<Vec<StepFault>> = OnceLock::new();
+    LISTED.get_or_init(|| entries("STEP_FAULT").map(step_fault).collect())
 }
 
 /// What the header says of this refusal.
@@ -43,20 +60,30 @@ pub fn number_of(name: &str) -> u16 {
     known.unwrap_or_else(|| panic!("the header lists no {name}")).number
 }
 
-/// The macro's entries: `REFUSAL(number, name, counts, meaning)`, the last of one literal or more.
-fn listed(header: &str) -> Vec<Meaning> {
-    let (_, list) = header.split_once("#define JUSTIFICATION_REFUSALS(REFUSAL)").expect("a list");
+/// What the list of this macro gives to it: the first parameter, the second, and the literals of
+/// the rest.
+type Entry = (u16, &'static str, Vec<String>);
+
+/// The entries of a list, such as `REFUSAL(number, name, counts, meaning)`.
+fn entries(name: &'static str) -> impl Iterator<Item = Entry> {
+    let (_, list) = HEADER.split_once(&format!("_{name}S({name})")).expect("a list");
     let (list, _) = list.split_once("\n\n").expect("its end");
-    let entries = list.split("REFUSAL(").skip(1).map(|entry| {
+    list.split(name).filter_map(|entry| entry.strip_prefix('(')).map(|entry| {
         let (number, rest) = entry.split_once(',').expect("a number");
-        let number = number.parse().expect("a number");
-        let (name, rest) = rest.split_once(',').expect("a name");
-        let name = name.trim().to_string();
-        let mut words = literals(rest).into_iter();
-        let counts = words.next().expect("what the place counts");
-        Meaning { number, name, counts, wrong: words.collect() }
-    });
-    entries.collect()
+        let (second, rest) = rest.split_once(',').expect("a second parameter");
+        (number.parse().expect("a number"), second.trim(), literals(rest))
+    })
+}
+
+/// `REFUSAL(number, name, counts, meaning)`, the last of one literal or more.
+fn refusal((number, name, mut literals): Entry) -> Meaning {
+    let counts = literals.remove(0);
+    Meaning { number, name: name.to_string(), counts, wrong: literals.concat() }
+}
+
+/// `STEP_FAULT(number, rule, meaning)`.
+fn step_fault((number, rule, literals): Entry) -> StepFault {
+    StepFault { number, rule: rule.parse().expect("a rule"), wrong: literals.concat() }
 }
 
 /// The string literals of a piece of C.
@@ -82,12 +109,12 @@ fn literals(source: &str) -> Vec<String> {
     found
 }
 
-/// The verdict in a sentence, and for a pass one for each entry of the room.
-pub fn words(verdict: Verdict, room: &[u16]) -> Vec<String> {
+/// The verdict on a file in a sentence, and for a pass one for each entry of the room.
+pub fn words(file: &[u8], verdict: Verdict, room: &[u16]) -> Vec<String> {
     match verdict {
         Verdict::Passed { obligations, rows } => passed(obligations as usize, rows as usize, room),
         Verdict::NoneOwed => vec!["This action asks nothing of this agent.".to_string()],
-        Verdict::Refused { number, place } => vec![refused(number, place)],
+        Verdict::Refused { number, place } => vec![refused(file, number, place)],
     }
 }
 
@@ -99,11 +126,19 @@ fn passed(obligations: usize, rows: usize, room: &[u16]) -> Vec<String> {
     [proves].into_iter().chain(duties).chain(rows).collect()
 }
 
-fn refused(number: u16, place: u16) -> String {
+fn refused(file: &[u8], number: u16, place: u16) -> String {
     let Meaning { counts, wrong, .. } = meaning(number);
+    let wrong = by_rule(file, number, place).unwrap_or(wrong);
     match (counts.as_str(), PARTS.get(place as usize)) {
         ("", _) => wrong.to_string(),
         ("Part", Some(part)) => format!("Part {place} ({part}): {wrong}"),
         _ => format!("{counts} {place}: {wrong}"),
     }
+}
+
+/// What the header says of this refusal for the rule of the step at this place.
+fn by_rule(file: &[u8], number: u16, place: u16) -> Option<&'static String> {
+    let rule = read(file)?.case.steps.get(place as usize)?.rule;
+    let told = step_faults().iter().find(|fault| (fault.number, fault.rule) == (number, rule));
+    told.map(|fault| &fault.wrong)
 }

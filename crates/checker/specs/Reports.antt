@@ -21,13 +21,13 @@ concluding c s room = do
   inOrder (endChecks c s room)
   accepts (justified (dischargedList c s) (citedList c s))
 
--- Checks 12 to 23.
+-- The checks of the steps, and those after them.
 unfoldable pub proof : Case → ℕ → Checked Finding
 proof c room = do
   inOrder (proofChecks c room)
   accepts (justified (dischargedList c (finalState c)) (citedList c (finalState c)))
 
--- Checks 10 to 23.
+-- Checks 10 and 11, and where a proof is owed those of its steps and after them.
 unfoldable pub justifying : Case → ℕ → Checked Finding
 justifying c room = do
   inOrder (caseChecks c room)

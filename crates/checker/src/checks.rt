@@ -25,7 +25,7 @@ ghost use Rattle.case_file.specs.LentCase.{Lent, CaseLent};
 ghost use Rattle.checker.specs.Meanings.{verdictMeant};
 ghost use Rattle.checker.specs.Reports.{proof, justifying, Reported};
 
-// Checks 12 to 23 of a case that has steps.
+// The checks of the steps of a case that has some, and those after them.
 fn check_steps(file: &[u8], book: &[u8], views: &[u16; 1024], room: &mut [u16]) -> Verdict
     requires { ⌜ CaseLent (now file) (now book) (now views) × (0 < count (now file) step-part) ⌝ }
     ensures { λ r. ⌜ Reported (proof (caseOf (now (file .entry))) (length (now (room .entry)))) (now (room .entry)) r (now (room .exit)) ⌝ }
@@ -64,7 +64,7 @@ fn check_owing(file: &[u8], book: &[u8]) -> Failure
     }
 }
 
-// Checks 10 to 23 of an admitted case. Where 10 and 11 let it pass, something is owed just if there are steps.
+// What follows the admission: 10 and 11, the steps, and what comes after them. Where 10 and 11 let it pass, something is owed just if there are steps.
 fn check_admitted(file: &[u8], book: &[u8], views: &[u16; 1024], room: &mut [u16]) -> Verdict
     requires { ⌜ CaseLent (now file) (now book) (now views) ⌝ }
     ensures { λ r. ⌜ Reported (justifying (caseOf (now (file .entry))) (length (now (room .entry)))) (now (room .entry)) r (now (room .exit)) ⌝ }

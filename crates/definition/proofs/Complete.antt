@@ -11,12 +11,12 @@ use Rattle.definition.proofs.PremiseLaws.{Distinct, split-share}
 use Rattle.definition.proofs.RuleLaws.{spends, Small, Tests, followed}
 use Rattle.definition.proofs.Sound.{Discharges}
 use Rattle.definition.proofs.StateMarks.{openAt, opens-at, joined-same}
-use Rattle.definition.proofs.StepLaws.{Local, premiseFormulas}
+use Rattle.definition.proofs.StepLaws.{Local}
 use Rattle.definition.specs.03-Lists.{Among, Disjoint}
 use Rattle.definition.specs.13-Formulas.{Formula, each-use}
 use Rattle.definition.specs.17-Case.{Case}
 use Rattle.definition.specs.21-Rules.{ruleAt}
-use Rattle.definition.specs.22-Steps.{Labels, opensIn, ruleOf, premisesOf, isAnObligation, joined, leaves, share, stateAt}
+use Rattle.definition.specs.22-Steps.{Labels, opensIn, ruleOf, premisesOf, premiseFormulas, isAnObligation, joined, leaves, share, stateAt}
 use Rattle.definition.specs.42-Account.{bothSets, noLabels, IsStep, LabelsSplit, ObligationsSplit, Follows, Proof, by-rule, no-more, one-more}
 
 -- what a step of a tree has by itself

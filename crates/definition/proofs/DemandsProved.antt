@@ -1,7 +1,9 @@
--- The three demands, proved of the definition. Each is stated in specs/44-Demands. Assumes nothing.
+-- The three demands, proved of the definition. Each is stated in specs/44-Demands. What requests leave as it was, stated in specs/46-Requests. Assumes nothing.
 use Rattle.definition.proofs.CitedLists as cited
+use Rattle.definition.proofs.MisfitLaws as misfits
 use Rattle.definition.proofs.NoneOwed as none
 use Rattle.definition.proofs.OneNumber.{one-number}
+use Rattle.definition.proofs.OwnNumbers as own
 use Rattle.definition.proofs.PassesExactly as account
 use Rattle.definition.proofs.Findings as order
 use Rattle.definition.proofs.RefusalTable as table
@@ -9,6 +11,7 @@ use Rattle.definition.proofs.RoomLaws as room
 use Rattle.definition.proofs.StruckFile as struck
 use Rattle.definition.proofs.UnseenRows as unseen
 use Rattle.definition.specs.44-Demands.{RefusalKeepsRoom, NoneOwedKeepsRoom, PassKeepsRest, FirstIsTold, RefusedByTable, StepIsPlace, PassesExactly, RefusedForRoom, NoneOwedExactly, PassLists, EachUseOnce, UnseenRowsAreUnseen, AsIfStruck, StrikesUnseen, OneMeaningOneNumber}
+use Rattle.definition.specs.46-Requests.{NumbersAlone, FitsAsBefore}
 
 pub record Demand1 : Type 0 where
   pub refusal-keeps-room : RefusalKeepsRoom
@@ -29,6 +32,10 @@ pub record Demand3 : Type 0 where
   pub unseen-rows-are-unseen : UnseenRowsAreUnseen
   pub as-if-struck : AsIfStruck
   pub strikes-unseen : StrikesUnseen
+
+pub record Request1 : Type 0 where
+  pub numbers-alone : NumbersAlone
+  pub fits-as-before : FitsAsBefore
 
 pub demand-1 : Demand1
 demand-1 =
@@ -61,3 +68,6 @@ demand-3 =
 
 pub one-meaning-one-number : OneMeaningOneNumber
 one-meaning-one-number = one-number
+
+pub request-1 : Request1
+request-1 = record { numbers-alone = own.numbers-alone; fits-as-before = misfits.fit-checks }

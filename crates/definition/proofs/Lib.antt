@@ -21,7 +21,9 @@ pub mod StateMarks
 pub mod PremiseLaws
 pub mod ConclusionLaws
 pub mod RuleLaws
+pub mod MisfitLaws
 pub mod StepLaws
+pub mod OwnNumbers
 pub mod Sound
 pub mod Complete
 pub mod Findings

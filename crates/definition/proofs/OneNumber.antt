@@ -1,5 +1,5 @@
 -- In a book that passes checks 3 and 4 no formula has two numbers: a row's fields can be read off its tree, and no two rows have the same fields. Assumes nothing.
-use Prim.Native.Nat.{ℕ, zero, suc, _+_, _≤_, _<_}
+use Prim.Native.Nat.{ℕ, zero, suc, _≤_, _<_}
 use mathlib.Core.Path.{_≡_, refl, sym, ap}
 use mathlib.Core.Bool.{true, false}
 use mathlib.Core.List.{List}
@@ -11,7 +11,7 @@ use Rattle.definition.proofs.Tests.{and-intro, not-both}
 use Rattle.definition.proofs.Trees.{Shape, predicate-row, owns-row, says-row, and-row, for-all-row, implies-row, each-use-row, once-row, communicates-row, creates-row, user-action-row, row-shape}
 use Rattle.definition.specs.01-Words.{absent}
 use Rattle.definition.specs.12-Terms.{Sort, agents, data-objects}
-use Rattle.definition.specs.13-Formulas.{Formula, predicate, owns, says, and, for-all, implies, after, communicates, creates, user-action, no-formula}
+use Rattle.definition.specs.13-Formulas.{Formula, predicate, owns, says, and, for-all, implies, after, communicates, creates, user-action, no-formula, kindOf}
 use Rattle.definition.specs.14-Book.{Row, rowAt, bookRows, sortOfCode, treeIn, book, badFormula, sameRow, repeatsLower}
 
 -- What a field stands for: itself, or the formula of that number.
@@ -19,9 +19,8 @@ pub data Part : Type 0 where
   number : ℕ → Part
   formula : Formula → Part
 
--- The fields of a formula's row.
+-- What stands in a formula's row behind its kind.
 pub record Fields : Type 0 where
-  pub kind : ℕ
   pub code : ℕ
   pub x : Part
   pub y : Part
@@ -32,29 +31,30 @@ codeOf agents = 0
 codeOf data-objects = 1
 
 unfoldable pub fieldsOf : Formula → Fields
-fieldsOf (predicate c x y z) = record { kind = 0; code = c; x = number x; y = number y; z = z }
-fieldsOf (owns x y) = record { kind = 1; code = 0; x = number x; y = number y; z = absent }
-fieldsOf (says x f z) = record { kind = 2; code = 0; x = number x; y = formula f; z = z }
-fieldsOf (and f g) = record { kind = 3; code = 0; x = formula f; y = formula g; z = absent }
-fieldsOf (for-all σ f) = record { kind = 4; code = codeOf σ; x = formula f; y = number absent; z = absent }
-fieldsOf (implies f g) = record { kind = 5; code = 0; x = formula f; y = formula g; z = absent }
-fieldsOf (after m a f) = record { kind = m + 5; code = 0; x = formula a; y = formula f; z = absent }
-fieldsOf (communicates x f z) = record { kind = 8; code = 0; x = number x; y = formula f; z = z }
-fieldsOf (creates x y) = record { kind = 9; code = 0; x = number x; y = number y; z = absent }
-fieldsOf (user-action c x y z) = record { kind = 10; code = c; x = number x; y = number y; z = z }
-fieldsOf no-formula = record { kind = 11; code = 0; x = number 0; y = number 0; z = 0 }
+fieldsOf (predicate c x y z) = record { code = c; x = number x; y = number y; z = z }
+fieldsOf (owns x y) = record { code = 0; x = number x; y = number y; z = absent }
+fieldsOf (says x f z) = record { code = 0; x = number x; y = formula f; z = z }
+fieldsOf (and f g) = record { code = 0; x = formula f; y = formula g; z = absent }
+fieldsOf (for-all σ f) = record { code = codeOf σ; x = formula f; y = number absent; z = absent }
+fieldsOf (implies f g) = record { code = 0; x = formula f; y = formula g; z = absent }
+fieldsOf (after m a f) = record { code = 0; x = formula a; y = formula f; z = absent }
+fieldsOf (communicates x f z) = record { code = 0; x = number x; y = formula f; z = z }
+fieldsOf (creates x y) = record { code = 0; x = number x; y = number y; z = absent }
+fieldsOf (user-action c x y z) = record { code = c; x = number x; y = number y; z = z }
+fieldsOf no-formula = record { code = 0; x = number 0; y = number 0; z = 0 }
 
 -- The number n, in row k over the trees l, stands for the part.
 abbrev pub StandsFor : List Formula → ℕ → ℕ → Part → Type 0
 StandsFor l k n (number m) = n ≡ m
 StandsFor l k n (formula f) = (n < k) × (treeIn l n ≡ f)
 
-pub record Has (l : List Formula) (k : ℕ) (r : Row) (f : Fields) : Type 0 where
-  pub kind : r .kind ≡ f .kind
-  pub code : r .code ≡ f .code
-  pub x : StandsFor l k (r .x) (f .x)
-  pub y : StandsFor l k (r .y) (f .y)
-  pub z : r .z ≡ f .z
+-- The row, as row k over the trees l, has the formula's kind and fields.
+pub record Has (l : List Formula) (k : ℕ) (r : Row) (f : Formula) : Type 0 where
+  pub kind : r .kind ≡ kindOf f
+  pub code : r .code ≡ fieldsOf f .code
+  pub x : StandsFor l k (r .x) (fieldsOf f .x)
+  pub y : StandsFor l k (r .y) (fieldsOf f .y)
+  pub z : r .z ≡ fieldsOf f .z
 
 code-of : (c : ℕ) → c ≤ 1 → c ≡ codeOf (sortOfCode c)
 unfolding codeOf sortOfCode
@@ -62,7 +62,7 @@ code-of zero h = refl
 code-of (suc zero) h = refl
 code-of (suc (suc c)) h = absurd (omega arith)
 
-pub fields : {l : List Formula} {k : ℕ} {r : Row} → Shape l k r → Has l k r (fieldsOf (treeIn l k))
+pub fields : {l : List Formula} {k : ℕ} {r : Row} → Shape l k r → Has l k r (treeIn l k)
 unfolding fieldsOf
 fields (predicate-row e h is) = rw is (record { kind = e; code = refl; x = refl; y = refl; z = refl })
 fields (owns-row e h is) = rw is (record { kind = e; code = h .code; x = refl; y = refl; z = h .rest })
@@ -85,13 +85,13 @@ one-part l j k a b (number m) low h i = cc
 one-part l j k a b (formula f) low h i = low a b (h .0) (i .0) cc
 
 pub one-row :
-    (l : List Formula) (j k : ℕ) (q r : Row) (f : Fields) → ((m n : ℕ) → m < j → n < k → treeIn l m ≡ treeIn l n → m ≡ n) →
+    (l : List Formula) (j k : ℕ) (q r : Row) (f : Formula) → ((m n : ℕ) → m < j → n < k → treeIn l m ≡ treeIn l n → m ≡ n) →
     Has l j q f → Has l k r f → q ≡ r
 one-row l j k q r f low h i =
     let kind : q .kind ≡ r .kind = cc in
     let code : q .code ≡ r .code = cc in
-    let x = one-part l j k (q .x) (r .x) (f .x) low (h .x) (i .x) in
-    let y = one-part l j k (q .y) (r .y) (f .y) low (h .y) (i .y) in
+    let x = one-part l j k (q .x) (r .x) (fieldsOf f .x) low (h .x) (i .x) in
+    let y = one-part l j k (q .y) (r .y) (fieldsOf f .y) low (h .y) (i .y) in
     let z : q .z ≡ r .z = cc in
     λ d. record { kind = kind d; code = code d; x = x d; y = y d; z = z d }
 
@@ -115,7 +115,7 @@ module _ (s : List ℕ) (good : (k : ℕ) → k < bookRows s → badFormula s (b
   numbers zero j k below j-in k-in e = absurd (omega arith)
   numbers (suc bound) j k below j-in k-in e =
       let row : rowAt s j ≡ rowAt s k =
-      one-row (book s) j k (rowAt s j) (rowAt s k) (fieldsOf (treeIn (book s) j))
+      one-row (book s) j k (rowAt s j) (rowAt s k) (treeIn (book s) j)
       (λ m n m-low n-low. numbers bound m n (omega arith) (omega arith) (omega arith))
       (fields (row-shape s j (good j j-in) j-in))
       (rw e (fields (row-shape s k (good k k-in) k-in))) in

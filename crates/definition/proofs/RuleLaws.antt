@@ -24,7 +24,7 @@ use Rattle.definition.specs.15-Records.{isDuty}
 use Rattle.definition.specs.16-Views.{RowView, hidden, struck, shows}
 use Rattle.definition.specs.04-Checks.{AllHold}
 use Rattle.definition.specs.17-Case.{Case}
-use Rattle.definition.specs.21-Rules.{first, second, isThat, sameAll, conclusion, rowConclusion, suppose, conditionRow, seenRow, say, refine, owner, andIntro, andLeft, andRight, impliesIntro, impliesElim, dutyIntro, dutyByObligation, dutyByLabel, forAllIntro, forAllElim, rule, rules, ruleAt}
+use Rattle.definition.specs.21-Rules.{first, second, isThat, sameAll, conclusion, rowConclusion, suppose, conditionRow, seenRow, say, refine, owner, andIntro, andLeft, andRight, impliesIntro, impliesElim, dutyIntro, dutyByObligation, dutyByLabel, admitsParameter, admitsTerm, bodyWith, forAllIntro, forAllElim, rule, rules, ruleAt}
 use Rattle.definition.specs.22-Steps.{Labels, citationChecks, mustBeAbsent, isNone, citesAbsent, citesNothing, isARow, isAnObligation, isHidden, isStruck, citesHidden, citesStruck, isEachUse, isAdding, leaves}
 use Rattle.definition.specs.41-Occurrences.{Mentions, MentionsDataVariable, Instance}
 use Rattle.definition.specs.42-Account as account
@@ -74,7 +74,7 @@ two-of (f ∷ g ∷ e ∷ fs) h k p q = absurd (omega (arith, ltb-false 2 (lengt
 absent-is : (a : ℕ) → not (eqb a absent) ≡ false → a ≡ absent
 absent-is a e = eqb-true a absent (not-false (eqb a absent) e)
 
-duty-is : (m : ℕ) → (isDuty m ≡ true) ↔ Duty m
+pub duty-is : (m : ℕ) → (isDuty m ≡ true) ↔ Duty m
 unfolding isDuty
 duty-is m = (
   λ e. ⊎-elim (λ h. inl (eqb-true m each-use h)) (λ h. inr (eqb-true m once h)) (or-true (eqb m each-use) (eqb m once) e),
@@ -113,7 +113,7 @@ data-are : (f : Formula) → DataAre f (dataOf f)
 data-are f = record { ascending = data-ascend f; exactly = data-among f }
 
 -- the numbers of the rules, one by one
-data Numbered : ℕ → Type 0 where
+pub data Numbered : ℕ → Type 0 where
   rule-0 : Numbered 0
   rule-1 : Numbered 1
   rule-2 : Numbered 2
@@ -131,7 +131,7 @@ data Numbered : ℕ → Type 0 where
   rule-14 : Numbered 14
   rule-15 : Numbered 15
 
-numbered : (r : ℕ) → r < 16 → Numbered r
+pub numbered : (r : ℕ) → r < 16 → Numbered r
 numbered r lt = each-at Numbered 16 0 (rule-0, (rule-1, (rule-2, (rule-3, (rule-4, (rule-5, (rule-6, (rule-7, (rule-8, (rule-9, (rule-10, (rule-11, (rule-12, (rule-13, (rule-14, (rule-15, tt)))))))))))))))) r (omega arith) (omega arith)
 
 -- What the tests of a step say, rule by rule.
@@ -140,7 +140,7 @@ module _ (c : Case) (f : Formula) (a : ℕ) (fs : List Formula) (L : Labels) whe
   the-label e m g = record { inside = inside _ _ e; mark-is = m; formula-is = g }
 
   follows : {r : ℕ} → Numbered r → Tests c r f a fs L → Step-follows c r f a fs L
-  unfolding ruleAt rules rule suppose citesNothing citationChecks leaves spends isAnObligation withLabel conditionRow seenRow citesHidden citesStruck isARow rowConclusion say mustBeAbsent refine owner andIntro andLeft andRight impliesIntro withoutLabel impliesElim dutyIntro dutyByObligation dutyByLabel isAdding isEachUse forAllIntro forAllElim
+  unfolding ruleAt rules rule suppose citesNothing citationChecks leaves spends isAnObligation withLabel conditionRow seenRow citesHidden citesStruck isARow rowConclusion say mustBeAbsent refine owner andIntro andLeft andRight impliesIntro withoutLabel impliesElim dutyIntro dutyByObligation dutyByLabel isAdding isEachUse admitsParameter admitsTerm bodyWith forAllIntro forAllElim
   follows rule-0 t =
       let h = and-true _ _ (t .fits) in
       moved refl refl (none-of fs (t .most)) (account.suppose (the-label (t .cites .1 .0) (eqb-true _ _ (h .0)) (sym (same-true _ _ (h .1)))))
@@ -270,7 +270,7 @@ by {r} e cites fits =
 pub followed :
     (c : Case) → Small c → {r a : ℕ} {f : Formula} {fs : List Formula} {L M : Labels} {u : List ℕ} →
     Follows c r f a fs L M u → Followed c r f a fs L M u
-unfolding ruleAt rules rule mustBeAbsent citesAbsent citesNothing citesHidden citesStruck isARow citationChecks isAdding leaves spends isAnObligation isNone isHidden isStruck isEachUse withLabel withoutLabel first second firstPart secondPart source target sortOf suppose conditionRow seenRow say refine owner andIntro andLeft andRight impliesIntro impliesElim dutyIntro dutyByObligation dutyByLabel forAllIntro forAllElim isThat rowConclusion faulty
+unfolding ruleAt rules rule mustBeAbsent citesAbsent citesNothing citesHidden citesStruck isARow citationChecks isAdding leaves spends isAnObligation isNone isHidden isStruck isEachUse withLabel withoutLabel first second firstPart secondPart source target sortOf suppose conditionRow seenRow say refine owner andIntro andLeft andRight impliesIntro impliesElim dutyIntro dutyByObligation dutyByLabel admitsParameter admitsTerm bodyWith forAllIntro forAllElim isThat rowConclusion faulty
 followed c small (account.suppose l) =
     by (rw (l .mark-is)) (entry-cited (l .inside) (small .labels)) (and-intro (eq-eqb _ 0 (l .mark-is)) (same-of _ _ (sym (l .formula-is))))
 followed c small (account.condition-row {a} {f} h e) =

@@ -10,13 +10,13 @@ use Rattle.definition.proofs.ListLaws.{among-append, append-among}
 use Rattle.definition.proofs.PremiseLaws.{Distinct, share-split, share-same}
 use Rattle.definition.proofs.RuleLaws.{spends, tests-follow}
 use Rattle.definition.proofs.StateMarks.{used-before, before-used, before-cited, openAt, opens-at, joined-same}
-use Rattle.definition.proofs.StepLaws.{Parts, fine-parts, premiseFormulas}
+use Rattle.definition.proofs.StepLaws.{Parts, fine-parts}
 use Rattle.definition.proofs.Tests.{not-both, trichotomy}
 use Rattle.definition.specs.03-Lists.{Among, Disjoint}
 use Rattle.definition.specs.13-Formulas.{each-use}
 use Rattle.definition.specs.17-Case.{Case}
 use Rattle.definition.specs.21-Rules.{ruleAt}
-use Rattle.definition.specs.22-Steps.{Labels, opensIn, usedIn, ruleOf, premisesOf, isAnObligation, joined, share, next, startState, stateAt}
+use Rattle.definition.specs.22-Steps.{Labels, opensIn, usedIn, ruleOf, premisesOf, premiseFormulas, isAnObligation, joined, share, next, startState, stateAt}
 use Rattle.definition.specs.42-Account.{bothSets, noLabels, ObligationsSplit, Follows, Proof, Proofs, by-rule, no-more, one-more}
 use Rattle.definition.specs.44-Demands.{StepsHold}
 

@@ -2,30 +2,28 @@
 use Prim.Native.Nat.{ℕ, _<_}
 use mathlib.Core.Path.{_≡_, _∙_}
 use mathlib.Core.Bool.{Bool, true, false, not, _&&_}
-use mathlib.Core.List.{List, map}
+use mathlib.Core.List.{[], _∷_}
 use native.Mathlib.Omega.{arith}
 use lib.ListN.{length, length-map}
 use lib.Dec.{eqb, ltb}
 use borrow.Author.Tests.{ltb-false, le-ltb, eqb-true, eq-eqb, not-false}
 use Rattle.definition.specs.01-Words.{absent}
 use Rattle.definition.specs.02-Ranges.{listed}
+use Rattle.definition.specs.04-Checks.{single}
 use Rattle.definition.proofs.CheckLaws.{by-number, both-hold, hold-both}
 use Rattle.definition.proofs.Tests.{and-true, and-intro, or-false, not-both, never-true}
-use Rattle.definition.specs.13-Formulas.{Formula, each-use, isPolicy, closed}
+use Rattle.definition.specs.13-Formulas.{each-use, isPolicy, closed}
 use Rattle.definition.specs.41-Occurrences.{Policy, Closed}
 use Rattle.definition.proofs.OccurrenceLaws.{policy-is, closed-is}
 use Rattle.definition.specs.15-Records.{badSpan}
 use Rattle.definition.specs.17-Case.{Case}
 use Rattle.definition.proofs.Spans as laws
-use Rattle.definition.specs.22-Steps.{State, opensIn, usedIn, Labels, ruleOf, premisesOf, mustBeAbsent, misshapen, isAnObligation, joined, isEachUse, isAdding, share, usedTwice, misfit, notFresh, citationChecks, fitChecks, shapeChecks, useChecks, stepChecks}
+use Rattle.definition.specs.22-Steps.{State, opensIn, usedIn, Labels, ruleOf, premisesOf, mustBeAbsent, misshapen, isAnObligation, joined, isEachUse, isAdding, share, usedTwice, premiseFormulas, misfit, notFresh, citationChecks, fitChecks, shapeChecks, useChecks, stepChecks}
 use Rattle.definition.specs.42-Account.{SpansAdjoin}
 use Rattle.definition.proofs.States.{Fine}
 use Rattle.definition.proofs.PremiseLaws.{Usable, premises-usable, usable-premises, listed-length}
 use Rattle.definition.proofs.RuleLaws.{Tests}
-
--- the formulas of the premises of step k
-unfoldable pub premiseFormulas : Case → ℕ → List Formula
-premiseFormulas c k = map (λ p. c .step p .formula) (premisesOf c k)
+use Rattle.definition.proofs.MisfitLaws.{fit-checks}
 
 -- the span of step k, as check 12 tests it
 unfoldable pub spanFault : Case → ℕ → Bool
@@ -107,7 +105,7 @@ parts-fine c k s p =
     let taken = usable-premises (usedIn s) k (premisesOf c k) (p .usable) in
     hold-both (shapeChecks c k s) (useChecks c k s)
     (shape, (taken, t .cites))
-    (rw (spent, l .split) (t .added), (rw (t .fits), (t .fresh, tt)))
+    (rw (spent, l .split) (t .added), hold-both (fitChecks c k) (single 19 k (notFresh c s k) ∷ []) (fit-checks c k .1 (rw (t .fits))) (t .fresh, tt))
 
 -- the spans of all steps adjoin and cover just if none is at fault
 pub spans-adjoin : (c : Case) → ((k : ℕ) → k < c .steps → spanFault c k ≡ false) → SpansAdjoin c

@@ -33,6 +33,20 @@ pub data Formula : Type 0 where
 unfoldable pub same : Formula → Formula → Bool
 same f g = decide (Formula-discrete ℕ-discrete Sort-discrete f g)
 
+-- The number of the formula's kind: 6 and 7 are the duties of marks 1 and 2, and no formula of a book has another mark. 11 is no kind.
+abbrev pub kindOf : Formula → ℕ
+kindOf (predicate c x y z) = 0
+kindOf (owns x y) = 1
+kindOf (says x f z) = 2
+kindOf (and f g) = 3
+kindOf (for-all σ f) = 4
+kindOf (implies f g) = 5
+kindOf (after m a f) = m + 5
+kindOf (communicates x f z) = 8
+kindOf (creates x y) = 9
+kindOf (user-action c x y z) = 10
+kindOf no-formula = 11
+
 unfoldable pub isPolicy : Formula → Bool
 isPolicy (predicate c x y z) = true
 isPolicy (owns x y) = true
@@ -170,7 +184,7 @@ addData no-formula ds = ds
 unfoldable pub dataOf : Formula → List ℕ
 dataOf f = addData f []
 
--- The parts of a formula, for rules that name them: its first and its second formula; the source X and the target Z of what is said or communicated; its sort.
+-- The parts of a formula, for rules that name them: its first and its second formula; the source X of what is said or communicated, or the owner X; the target Z; its sort.
 -- Where it has no such part, any value serves.
 unfoldable pub firstPart : Formula → Formula
 firstPart (predicate c x y z) = no-formula
@@ -200,7 +214,7 @@ secondPart no-formula = no-formula
 
 unfoldable pub source : Formula → ℕ
 source (predicate c x y z) = absent
-source (owns x y) = absent
+source (owns x y) = x
 source (says x f z) = x
 source (and f g) = absent
 source (for-all σ f) = absent

@@ -1,4 +1,4 @@
--- One step of a justification: checks 12 to 19 in their order, and what the step then changes; and the checks of all steps.
+-- One step of a justification: checks 12 to 19 and 24 to 26 in their order, and what the step then changes; and the checks of all steps.
 use Prim.Native.Nat.{ℕ, zero, suc, _+_}
 use mathlib.Core.Bool.{Bool, true, false, not, _&&_, _||_}
 use mathlib.Core.Option.{Option, none, some}
@@ -11,7 +11,7 @@ use Rattle.definition.specs.13-Formulas.{Formula, each-use, isPolicy, cl
 use Rattle.definition.specs.15-Records.{badSpan}
 use Rattle.definition.specs.16-Views.{RowView, hidden, struck, shows}
 use Rattle.definition.specs.17-Case.{Case}
-use Rattle.definition.specs.21-Rules.{Rule, Names, nothing, a-label, a-condition, a-row, an-obligation, a-term, Effect, keeps, adds, closes, ruleAt}
+use Rattle.definition.specs.21-Rules.{Rule, Names, nothing, a-label, a-condition, a-row, an-obligation, a-term, Effect, keeps, adds, closes, isOtherKind, isOtherParty, anyFaulty, ruleAt}
 
 -- A set of labels: is this label in it?
 abbrev pub Labels : Type 0
@@ -156,13 +156,25 @@ usedTwice c s r a ps =
     || share c (opensIn s) ps
     || (isAdding (r .effect) && isEachUse c a && joined (opensIn s) ps a)
 
--- Check 18: "rule does not fit otherwise".
+-- The formulas of the premises of step k.
+unfoldable pub premiseFormulas : Case → ℕ → List Formula
+premiseFormulas c k = map (λ p. c .step p .formula) (premisesOf c k)
+
+-- Document 02, request 1. Check 24: "wrong premise kind".
+unfoldable pub wrongKind : Case → ℕ → Bool
+wrongKind c k = anyFaulty isOtherKind (ruleOf c k .asks) 0 (premiseFormulas c k)
+
+-- Check 25: "wrong party".
+unfoldable pub wrongParty : Case → ℕ → Bool
+wrongParty c k = anyFaulty (isOtherParty (c .agent)) (ruleOf c k .asks) 0 (premiseFormulas c k)
+
+-- Check 26: "wrong instance".
+unfoldable pub wrongInstance : Case → ℕ → Bool
+wrongInstance c k = ruleOf c k .otherInstance c (c .step k .formula) (c .step k .argument) (premiseFormulas c k)
+
+-- Check 18: "rule does not fit otherwise". The checks before it tell some of the faults by other numbers.
 unfoldable pub misfit : Case → ℕ → Bool
-misfit c k =
-    let f = c .step k .formula in
-    let a = c .step k .argument in
-    let ps = map (λ p. c .step p .formula) (premisesOf c k) in
-    not (ruleOf c k .fits c f a ps)
+misfit c k = not (ruleOf c k .fits c (c .step k .formula) (c .step k .argument) (premiseFormulas c k))
 
 -- Check 19: "parameter in rule 14's formula or its premise's open labels".
 unfoldable pub notFresh : Case → State → ℕ → Bool
@@ -208,9 +220,14 @@ citationChecks c n a k =
     ∷ single 14 k (citesStruck c n a)
     ∷ []
 
--- Check 18 of step k.
+-- Whether step k fits its rule: 24, 25 and 26 are "tried in that order just before 18" (document 02).
 unfoldable pub fitChecks : Case → ℕ → List Check
-fitChecks c k = single 18 k (misfit c k) ∷ []
+fitChecks c k =
+    single 24 k (wrongKind c k)
+    ∷ single 25 k (wrongParty c k)
+    ∷ single 26 k (wrongInstance c k)
+    ∷ single 18 k (misfit c k)
+    ∷ []
 
 -- Checks 12 to 16 of step k: it is well made, and all that it rests on is there.
 unfoldable pub shapeChecks : Case → ℕ → State → List Check
@@ -219,14 +236,14 @@ shapeChecks c k s =
     ∷ single 13 k (badPremises (usedIn s) k (premisesOf c k))
     ∷ citationChecks c (ruleOf c k .names) (c .step k .argument) k
 
--- Checks 17 to 19 of step k: it uses what it rests on as its rule allows.
+-- Check 17; 24, 25, 26 and 18; check 19: step k uses what it rests on as its rule allows.
 unfoldable pub useChecks : Case → ℕ → State → List Check
 useChecks c k s =
     single 17 k (usedTwice c s (ruleOf c k) (c .step k .argument) (premisesOf c k))
     ∷ fitChecks c k
     ++ (single 19 k (notFresh c s k) ∷ [])
 
--- Step k "through 12 to 19 by number", in the state that the steps before it have left.
+-- Step k "through 12 to 19 by number", 24 to 26 put in before 18, in the state that the steps before it have left.
 unfoldable pub stepChecks : Case → ℕ → State → List Check
 stepChecks c k s = shapeChecks c k s ++ useChecks c k s
 
@@ -242,5 +259,5 @@ stateAt c (suc k) = next c k (stateAt c k)
 
 -- What an evaluation unfolds of this file.
 unfoldable pub evaluatedSteps : Unit {0}
-unfolding startState ruleOf premisesOf mustBeAbsent misshapen badPremises isNone citesAbsent citesNothing isARow isAnObligation isHidden isStruck citesHidden citesStruck joined isEachUse share isAdding usedTwice misfit notFresh leaves markAll markIf next citationChecks fitChecks shapeChecks useChecks stepChecks checksOfSteps stateAt
+unfolding startState ruleOf premisesOf mustBeAbsent misshapen badPremises isNone citesAbsent citesNothing isARow isAnObligation isHidden isStruck citesHidden citesStruck joined isEachUse share isAdding usedTwice premiseFormulas wrongKind wrongParty wrongInstance misfit notFresh leaves markAll markIf next citationChecks fitChecks shapeChecks useChecks stepChecks checksOfSteps stateAt
 evaluatedSteps = tt

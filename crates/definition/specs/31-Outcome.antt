@@ -99,7 +99,7 @@ endChecks c s room = closingChecks c s ++ roomChecks c s room
 unfoldable pub finalState : Case → State
 finalState c = stateAt c (c .steps)
 
--- "Then steps in order, each through 12 to 19 by number; then 20 to 23."
+-- "Then steps in order, each through 12 to 19 by number; then 20 to 23." `stepChecks` has what document 02 put in.
 unfoldable pub proofChecks : Case → (room : ℕ) → List Check
 proofChecks c room = checksOfSteps c (c .steps) 0 startState ++ endChecks c (finalState c) room
 
@@ -112,7 +112,7 @@ checksIfOwed (some f) c room = proofChecks c room
 unfoldable pub caseChecks : Case → (room : ℕ) → List Check
 caseChecks c room = owingChecks c ++ checksIfOwed (owes c) c room
 
--- All checks of the file s with a room of so many entries. "Order: 1 to 11 by number, lowest place first; then steps in order, each through 12 to 19 by number; then 20 to 23."
+-- All checks of the file s with a room of so many entries. "Order: 1 to 11 by number, lowest place first; then steps in order, each through 12 to 19 by number; then 20 to 23." Checks that document 02 adds stand in their groups.
 unfoldable pub allChecks : List ℕ → (room : ℕ) → List Check
 allChecks s room = admissionChecks s ++ caseChecks (caseOf s) room
 

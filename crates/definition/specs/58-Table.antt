@@ -1,9 +1,10 @@
--- Document 01's table of refusals: the example of each row that is no desk case, and further ones for places, binders and limits, computed from the definition; the numbers of all checks in their order, and the ranges of terms.
+-- The tables of refusals of documents 01 and 02: the example of each row that is no desk case, and further ones for places, binders and limits, computed from the definition; the numbers of all checks in their order, and the ranges of terms.
 use Prim.Native.Nat.{ℕ, _+_}
 use mathlib.Core.List.{List, [], _∷_, _++_, map}
 use mathlib.Core.Path.{_≡_, refl}
 use lib.ListN.{length, take, drop, replicate}
 use Rattle.definition.specs.01-Words.{words, absent}
+use Rattle.definition.specs.02-Ranges.{listed}
 use Rattle.definition.specs.03-Lists.{joinAll}
 use Rattle.definition.specs.04-Checks.{numberOf}
 use Rattle.definition.specs.12-Terms.{agents, data-objects, object, parameter, variable, absent-term, no-term, classOf}
@@ -12,6 +13,7 @@ use Rattle.definition.specs.18-Admission.{admissionChecks}
 use Rattle.definition.specs.19-Rewriting.{laidOut}
 use Rattle.definition.specs.22-Steps.{State, stepChecks}
 use Rattle.definition.specs.31-Outcome.{passed, refused, owingChecks, endChecks}
+use Rattle.definition.specs.46-Requests.{outcomeBefore, evaluatedRequests}
 use Rattle.definition.specs.51-Files.{fileOf, formulaRow, predicateRow, ownsRow, saysRow, andRow, impliesRow, communicatesRow, createsRow, userActionRow, step}
 use Rattle.definition.specs.53-Desk.{DeskCase, computed, expected, unchanged, writes, grantWith, seenBy, ownerStep, grant, built}
 
@@ -129,8 +131,104 @@ twoBinders second =
 unfoldable pub binderCases : List DeskCase
 binderCases =
     writes (twoBinders 40960) (passed 0 1) (0 ∷ 902 ∷ 903 ∷ [])
-    ∷ unchanged (twoBinders 7) (refused 18 3)
+    ∷ unchanged (twoBinders 7) (refused 26 3)
     ∷ []
+
+-- Request 1 of document 02. These formulas are supposed, each by the label of its place, the first of them at step 0.
+unfoldable pub supposeAll : (label : ℕ) → List ℕ → List (List ℕ)
+supposeAll label [] = []
+supposeAll label (f ∷ fs) = step 0 f label 0 0 ∷ supposeAll (label + 1) fs
+
+-- A step of the rule from all of them, over these formulas and this action among them. Behind their labels stands one of mark 1 and the action; so has obligation 0.
+unfoldable pub following : (formulas : List (List ℕ)) → (action rule : ℕ) → (premises : List ℕ) → (formula argument : ℕ) → List ℕ
+following formulas action rule fs formula argument =
+    fileOf
+    (record {
+      agent = 0;
+      action = action;
+      formulas = formulas;
+      rows = [];
+      observers = [];
+      conditions = [];
+      obligations = 1 ∷ action ∷ [];
+      labels = joinAll (map (λ f. 0 ∷ f ∷ []) fs) ++ 1 ∷ action ∷ [];
+      steps = supposeAll 0 fs ++ step rule formula argument 0 (length fs) ∷ [];
+      premises = listed (λ j. j) (length fs) 0;
+    })
+
+-- What is said and joined: 10 is the action.
+unfoldable pub said : (rule : ℕ) → (premises : List ℕ) → (formula : ℕ) → List ℕ
+said rule fs formula =
+    following
+    -- 0 p, 1 q, 2 "p and q", 3 "p implies q"
+    (predicateRow 1 absent absent absent ∷ predicateRow 2 absent absent absent ∷ andRow 0 1 ∷ impliesRow 0 1
+    -- 4 "0 says p to 1", 5 "1 says p to 1", 6 "1 says p to 0", 7 "0 says q to 1", 8 "1 says q to 1", 9 "0 says q to 2"
+    ∷ saysRow 0 0 1 ∷ saysRow 1 0 1 ∷ saysRow 1 0 0 ∷ saysRow 0 1 1 ∷ saysRow 1 1 1 ∷ saysRow 0 1 2
+    ∷ userActionRow 7 0 absent absent ∷ [])
+    10 rule fs formula absent
+
+-- What is owned, demanded and said of all: 1 is the action.
+unfoldable pub taken : (rule : ℕ) → (premises : List ℕ) → (formula argument : ℕ) → List ℕ
+taken =
+    following
+    -- 0 p, 2 "0 owns d0", 3 "1 owns d1", 4 r(d0, d1), 5 "0 says r(d0, d1) to 1"
+    (predicateRow 1 absent absent absent ∷ userActionRow 7 0 absent absent ∷ ownsRow 0 16384 ∷ ownsRow 1 16385 ∷ predicateRow 3 16384 16385 absent ∷ saysRow 0 4 1
+    -- 6 s(x), 7 "for all agents x. s(x)", 8 s(5), 9 s of a parameter
+    ∷ predicateRow 4 40960 absent absent ∷ formulaRow 4 0 6 absent absent ∷ predicateRow 4 5 absent absent ∷ predicateRow 4 32768 absent absent
+    -- 10 and 11: p, where the action is done at each use, and once; 12 t(d0), 13 "1 says t(d0) to 1"
+    ∷ formulaRow 6 0 1 0 absent ∷ formulaRow 7 0 1 0 absent ∷ predicateRow 5 16384 absent absent ∷ saysRow 1 12 1 ∷ [])
+    1
+
+unfoldable pub misfitCases : List DeskCase
+misfitCases =
+    -- 24, each rule that asks a kind; in rules 4 and 5 of a further premise too
+    unchanged (said 3 (0 ∷ []) 0) (refused 24 1)
+    ∷ unchanged (said 4 (2 ∷ 4 ∷ []) 7) (refused 24 2)
+    ∷ unchanged (said 4 (3 ∷ 0 ∷ []) 7) (refused 24 2)
+    ∷ unchanged (taken 5 (0 ∷ []) 5 absent) (refused 24 1)
+    ∷ unchanged (taken 5 (2 ∷ 0 ∷ []) 5 absent) (refused 24 2)
+    ∷ unchanged (said 7 (3 ∷ []) 0) (refused 24 1)
+    ∷ unchanged (said 8 (3 ∷ []) 1) (refused 24 1)
+    ∷ unchanged (said 10 (2 ∷ 0 ∷ []) 1) (refused 24 2)
+    ∷ unchanged (taken 12 (0 ∷ []) 0 0) (refused 24 1)
+    ∷ unchanged (taken 13 (0 ∷ []) 0 1) (refused 24 1)
+    ∷ unchanged (taken 15 (0 ∷ []) 8 5) (refused 24 1)
+    -- 24 before 25, and before what an argument that is not admitted would be
+    ∷ unchanged (said 4 (2 ∷ 5 ∷ []) 7) (refused 24 2)
+    ∷ unchanged (taken 15 (0 ∷ []) 8 40960) (refused 24 1)
+    -- 25: the target, the source of the second premise, the owner in the first premise and in a further one
+    ∷ unchanged (said 3 (4 ∷ []) 0) (refused 25 1)
+    ∷ unchanged (said 4 (3 ∷ 5 ∷ []) 7) (refused 25 2)
+    ∷ unchanged (taken 5 (3 ∷ []) 5 absent) (refused 25 1)
+    ∷ unchanged (taken 5 (2 ∷ 3 ∷ []) 5 absent) (refused 25 2)
+    -- 26: the premise of rule 14, the formula of rule 15
+    ∷ unchanged (taken 14 (8 ∷ []) 7 32768) (refused 26 1)
+    ∷ unchanged (taken 15 (7 ∷ []) 8 6) (refused 26 1)
+    -- 18: an argument that is not admitted, however the bodies differ, and a rule 14 formula that is no for-all
+    ∷ unchanged (taken 14 (8 ∷ []) 7 5) (refused 18 1)
+    ∷ unchanged (taken 14 (9 ∷ []) 7 32800) (refused 18 1)
+    ∷ unchanged (taken 14 (9 ∷ []) 9 32768) (refused 18 1)
+    ∷ unchanged (taken 15 (7 ∷ []) 8 16384) (refused 18 1)
+    ∷ unchanged (taken 15 (7 ∷ []) 0 40960) (refused 18 1)
+    -- 18: the source or the target of the step's own formula, the second premise of rule 10, an obligation and a label of the other mark
+    ∷ unchanged (said 4 (3 ∷ 4 ∷ []) 8) (refused 18 2)
+    ∷ unchanged (said 4 (3 ∷ 4 ∷ []) 9) (refused 18 2)
+    ∷ unchanged (taken 5 (2 ∷ []) 13 absent) (refused 18 1)
+    ∷ unchanged (said 10 (3 ∷ 1 ∷ []) 1) (refused 18 2)
+    ∷ unchanged (taken 12 (11 ∷ []) 0 0) (refused 18 1)
+    ∷ unchanged (taken 13 (11 ∷ []) 0 1) (refused 18 1)
+    -- what fits goes on: the labels are open at the end, and the parameter is not fresh
+    ∷ unchanged (said 3 (6 ∷ []) 0) (refused 21 0)
+    ∷ unchanged (said 4 (3 ∷ 4 ∷ []) 7) (refused 21 0)
+    ∷ unchanged (taken 12 (10 ∷ []) 0 0) (refused 21 0)
+    ∷ unchanged (taken 13 (10 ∷ []) 0 1) (refused 21 0)
+    ∷ unchanged (taken 14 (9 ∷ []) 7 32768) (refused 19 1)
+    ∷ unchanged (taken 15 (7 ∷ []) 8 5) (refused 21 0)
+    ∷ []
+
+-- As it was before the request: the same place, and 18.
+unfoldable pub beforeCases : List (List ℕ)
+beforeCases = said 10 (2 ∷ 0 ∷ []) 1 ∷ said 3 (4 ∷ []) 0 ∷ taken 15 (7 ∷ []) 8 6 ∷ []
 
 -- So many records of these two numbers.
 unfoldable pub pairsOf : (count first second : ℕ) → List ℕ
@@ -142,7 +240,7 @@ observerAlone = laidOut 0 0 ([] ∷ [] ∷ words (0 ∷ []) ∷ [] ∷ [] ∷ []
 
 -- What builds these files, for an evaluation to unfold.
 unfoldable pub builtTable : Unit {0}
-unfolding built grantByte grantSteps grantOf grantAnd supposing supposedParameter supposedOwed laterPremise twoBinders
+unfolding built grantByte grantSteps grantOf grantAnd supposing supposedParameter supposedOwed laterPremise twoBinders supposeAll following said taken
 builtTable = tt
 
 pub table-claim : map computed tableCases ≡ map expected tableCases
@@ -153,11 +251,19 @@ pub place-claim : map computed placeCases ≡ map expected placeCases
 unfolding builtTable placeCases
 place-claim = refl
 
+pub misfit-claim : map computed misfitCases ≡ map expected misfitCases
+unfolding builtTable misfitCases
+misfit-claim = refl
+
+pub before-claim : map (λ s. outcomeBefore s [] .verdict) beforeCases ≡ refused 18 2 ∷ refused 18 1 ∷ refused 18 1 ∷ []
+unfolding builtTable beforeCases evaluatedRequests
+before-claim = refl
+
 pub binder-claim : map computed binderCases ≡ map expected binderCases
 unfolding builtTable binderCases
 binder-claim = refl
 
--- "By number": the numbers of each group's checks, in its order. The second 14 is the one exception, for a struck row.
+-- "By number": the numbers of each group's checks, in its order. The second 14 is the one exception, for a struck row. Document 02 puts 24, 25 and 26 before 18.
 pub admission-numbers : (s : List ℕ) → map numberOf (admissionChecks s) ≡ 1 ∷ 2 ∷ 3 ∷ 4 ∷ 5 ∷ 6 ∷ 7 ∷ 8 ∷ 9 ∷ []
 unfolding builtTable
 admission-numbers s = refl
@@ -166,7 +272,7 @@ pub owing-numbers : (c : Case) → map numberOf (owingChecks c) ≡ 10 ∷ 11 �
 unfolding builtTable
 owing-numbers c = refl
 
-pub step-numbers : (c : Case) (k : ℕ) (t : State) → map numberOf (stepChecks c k t) ≡ 12 ∷ 13 ∷ 14 ∷ 15 ∷ 16 ∷ 14 ∷ 17 ∷ 18 ∷ 19 ∷ []
+pub step-numbers : (c : Case) (k : ℕ) (t : State) → map numberOf (stepChecks c k t) ≡ 12 ∷ 13 ∷ 14 ∷ 15 ∷ 16 ∷ 14 ∷ 17 ∷ 24 ∷ 25 ∷ 26 ∷ 18 ∷ 19 ∷ []
 unfolding builtTable
 step-numbers c k t = refl
 

@@ -1,4 +1,4 @@
--- What is right, in document 01's order: 0 numbers, lists and checks; 1 the case file; 2 the steps of a justification; 3 the verdict; 4 the demands; 5 examples.
+-- What is right, in document 01's order: 0 numbers, lists and checks; 1 the case file; 2 the steps of a justification; 3 the verdict; 4 the demands, and what requests of document 02 leave as it was; 5 examples.
 pub mod 01-Words
 pub mod 02-Ranges
 pub mod 03-Lists
@@ -23,6 +23,7 @@ pub mod 42-Account
 pub mod 43-Alike
 pub mod 44-Demands
 pub mod 45-Promises
+pub mod 46-Requests
 pub mod 51-Files
 pub mod 52-Evaluation
 pub mod 53-Desk

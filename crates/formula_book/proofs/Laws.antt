@@ -17,12 +17,12 @@ use Rattle.definition.specs.13-Formulas.{Formula, no-formula, same, isPolicy, i
 use Rattle.definition.specs.14-Book.{Row, rowAt, bookRows, treeIn, treeOf, trees, book, badFormula, sameRow, repeatsLower, isMisshapen, bookChecks, bookAdmission}
 use Rattle.formula_book.specs.GoodRows.{GoodRow}
 use Rattle.formula_book.specs.AdmittedBooks.{AdmittedBook}
-use Rattle.definition.proofs.OneNumber.{Has, fields, fieldsOf, one-number}
+use Rattle.definition.proofs.OneNumber.{Has, fields, one-number}
 use Rattle.definition.proofs.Trees.{Shape, trees-length, row-shape}
 use Rattle.definition.proofs.TreeEquality.{same-is}
 use Rattle.formula_rows.proofs.RowKinds.{shape-policy, shape-action, shape-predicate}
 use Rattle.formula_book.proofs.RowComparison.{same-as-row}
-pub use Rattle.formula_book.proofs.RowComparison.{Proper, other-kind, predicate-proper, owns-proper, says-proper, and-proper, implies-proper, each-use-proper, once-proper, says-kind, and-kind, for-all-kind, implies-kind, communicates-kind, creates-kind, user-action-kind, body-policy, put-policy}
+pub use Rattle.formula_book.proofs.RowComparison.{Proper, other-kind, predicate-proper, owns-proper, says-proper, and-proper, implies-proper, each-use-proper, once-proper, owns-kind, says-kind, and-kind, for-all-kind, implies-kind, communicates-kind, creates-kind, user-action-kind, body-policy, put-policy}
 pub use Rattle.formula_walks.proofs.WalkLaws.{bound-present, free-present, parameter-present, data-variable-present, term-present}
 pub use Rattle.formula_book.proofs.WalkedRows.{policy-here, action-here, good-inside}
 
@@ -68,7 +68,7 @@ module _ (s : List ℕ) (row : ℕ) (g : GoodRow s row) where
   row-is = row-shape s row (g .good row (omega arith)) (g .inside)
 
   -- the fields from the tree
-  pub tree-row : Has (book s) row (rowAt s row) (fieldsOf (treeIn (book s) row))
+  pub tree-row : Has (book s) row (rowAt s row) (treeIn (book s) row)
   tree-row = fields row-is
 
 -- What a row's tree is, from its kind.

@@ -7,7 +7,7 @@ use native.Mathlib.Omega.{arith}
 use Rattle.definition.specs.01-Words.{absent}
 use Rattle.definition.proofs.Tests.{one-answer, never-true}
 use Rattle.definition.specs.12-Terms.{Sort}
-use Rattle.definition.specs.13-Formulas.{Formula, predicate, owns, says, and, for-all, implies, after, communicates, creates, user-action, no-formula, same, isPolicy, put}
+use Rattle.definition.specs.13-Formulas.{Formula, kindOf, predicate, owns, says, and, for-all, implies, after, communicates, creates, user-action, no-formula, same, isPolicy, put}
 use Rattle.definition.specs.14-Book.{Row, sortOfCode, treeIn, treeOf, sameRow}
 use Rattle.definition.proofs.TreeEquality.{same-is, same-true}
 use Rattle.formula_rows.proofs.RowEquality.{same-equal}
@@ -17,7 +17,7 @@ use Rattle.formula_walks.proofs.InstanceLaws.{shape-tree}
 
 -- The row has the fields that its tree has, over the first n formulas.
 abbrev pub Proper : List Formula → ℕ → Row → Type 0
-Proper l n r = Has l n r (fieldsOf (treeOf l r))
+Proper l n r = Has l n r (treeOf l r)
 
 -- Formula f, whose row is q, compared with the formula of the row r.
 pub same-as-row :
@@ -26,13 +26,13 @@ pub same-as-row :
 same-as-row {l} {f} {n} {q} {r} shape low proper =
     one-answer (same (treeIn l f) (treeOf l r)) (same-is (treeIn l f) (treeOf l r)) (
       λ e. shape-tree shape ∙ ap (treeOf l) (same-equal q r e),
-      λ e. same-row q r (one-row l f n q r (fieldsOf (treeOf l r)) low (rw e at (fields shape)) proper),
+      λ e. same-row q r (one-row l f n q r (treeOf l r) low (rw e at (fields shape)) proper),
     )
 
 -- Formula f is none whose row has another kind.
-pub other-kind : {l : List Formula} {f : ℕ} {q : Row} → Shape l f q → (g : Formula) → (q .kind ≡ fieldsOf g .kind → ⊥) → same (treeIn l f) g ≡ false
+pub other-kind : {l : List Formula} {f : ℕ} {q : Row} → Shape l f q → (g : Formula) → (q .kind ≡ kindOf g → ⊥) → same (treeIn l f) g ≡ false
 other-kind {l} {f} shape g other =
-    never-true (same (treeIn l f) g) (λ e. other (fields shape .kind ∙ ap (λ h. fieldsOf h .kind) (same-true (treeIn l f) g e)))
+    never-true (same (treeIn l f) g) (λ e. other (fields shape .kind ∙ ap kindOf (same-true (treeIn l f) g e)))
 
 -- The rows that rules compare with: terms alone, or terms and formulas of the book.
 module _ (l : List Formula) (n : ℕ) where
@@ -67,6 +67,10 @@ module _ (l : List Formula) (n : ℕ) where
 
 -- The tree of a row by its kind, and the bounds of its formulas.
 module _ {l : List Formula} {f : ℕ} {q : Row} (shape : Shape l f q) where
+  pub owns-kind : q .kind ≡ 1 → treeIn l f ≡ owns (q .x) (q .y)
+  unfolding treeOf
+  owns-kind e = shape-tree shape ∙ rw e
+
   pub says-kind : q .kind ≡ 2 → (treeIn l f ≡ says (q .x) (treeIn l (q .y)) (q .z)) × (q .y < f)
   unfolding treeOf fieldsOf
   says-kind e =

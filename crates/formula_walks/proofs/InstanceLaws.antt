@@ -11,7 +11,7 @@ use borrow.Author.Tests.{eqb-true, eq-eqb}
 use Rattle.definition.specs.01-Words.{absent}
 use Rattle.definition.proofs.Tests.{and-true, and-intro, and-is, one-answer, never-true, not-both}
 use Rattle.definition.specs.12-Terms.{Sort, isBound}
-use Rattle.definition.specs.13-Formulas.{Formula, predicate, owns, says, and, for-all, implies, after, communicates, creates, user-action, no-formula, same, put, putTerm}
+use Rattle.definition.specs.13-Formulas.{Formula, kindOf, predicate, owns, says, and, for-all, implies, after, communicates, creates, user-action, no-formula, same, put, putTerm}
 use Rattle.definition.specs.14-Book.{Row, sortOfCode, treeIn, treeOf}
 use Rattle.formula_rows.specs.Nodes.{Node, leaf, said, pair, body, duty, no-node, nodeOf, nodeTable}
 use Rattle.formula_walks.specs.CommonNode.{commonNode}
@@ -84,7 +84,7 @@ shape-tree (creates-row e f t) = rw e t
 shape-tree (user-action-row e f g t) = rw e t
 
 -- `put` keeps kind and code, and the absent term.
-put-head : (σ : Sort) (t d : ℕ) (f : Formula) → (fieldsOf (put σ t d f) .kind ≡ fieldsOf f .kind) × (fieldsOf (put σ t d f) .code ≡ fieldsOf f .code)
+put-head : (σ : Sort) (t d : ℕ) (f : Formula) → (kindOf (put σ t d f) ≡ kindOf f) × (fieldsOf (put σ t d f) .code ≡ fieldsOf f .code)
 unfolding put fieldsOf
 put-head σ t d (predicate c x y z) = (refl, refl)
 put-head σ t d (owns x y) = (refl, refl)
@@ -152,7 +152,7 @@ module _ (σ : Sort) (t d : ℕ) {l : List Formula} {j k : ℕ} {q r : Row} wher
       let f = fields g in
       let i = fields h in
       let p = put-head σ t d (treeIn l j) in
-      (cc (ap (λ u. fieldsOf u .kind) e), cc (ap (λ u. fieldsOf u .code) e))
+      (cc (ap kindOf e), cc (ap (λ u. fieldsOf u .code) e))
 
   -- both: one kind and code, and then what the node says
   pub shape-instance : Shape l j q → Shape l k r → same (treeIn l k) (put σ t d (treeIn l j)) ≡ instNode σ t d l r (commonNode q r)

@@ -6,11 +6,10 @@ use mathlib.Core.Option.{Option, none, some}
 use mathlib.Core.List.{List}
 use lib.Dec.{eqb}
 use Rattle.definition.specs.01-Words.{absent}
-use Rattle.definition.specs.13-Formulas.{Formula, predicate, owns, says, and, for-all, implies, after, communicates, creates, user-action, no-formula}
+use Rattle.definition.specs.13-Formulas.{Formula, kindOf, predicate, owns, says, and, for-all, implies, after, communicates, creates, user-action, no-formula}
 use Rattle.definition.specs.14-Book.{Row, rowAt, treeIn, treeOf, book as trees}
 use Rattle.formula_rows.specs.Meanings.{rowMeant}
 use Rattle.formula_rows.specs.declared.rows.Row as rows
-use Rattle.definition.proofs.OneNumber.{fieldsOf}
 use Rattle.formula_book.proofs.Laws.{tree-row, communicates-kind, creates-kind, user-action-kind}
 use Rattle.definition.specs.11-Layout.{agentOf, actionOf}
 use Rattle.definition.specs.17-Case.{caseOf}
@@ -30,8 +29,8 @@ abbrev pub OfAgent : Policy → (agent who : ℕ) → rows.Row → Type 0
 OfAgent p agent who r = (b : List ℕ) → Tells b (rowMeant r) → PolicyIs b p (cond (eqb who agent) (some (treeOf (trees b) (rowMeant r))) none)
 
 -- Actions of other kinds give nothing.
-no-more : (agent : ℕ) (f : Formula) → (fieldsOf f .kind ≡ 8 → ⊥) → ((fieldsOf f .kind ≡ 9 → ⊥) → conclusion agent f ≡ none) × ((fieldsOf f .kind ≡ 10 → ⊥) → owed agent f ≡ none)
-unfolding conclusion owed fieldsOf
+no-more : (agent : ℕ) (f : Formula) → (kindOf f ≡ 8 → ⊥) → ((kindOf f ≡ 9 → ⊥) → conclusion agent f ≡ none) × ((kindOf f ≡ 10 → ⊥) → owed agent f ≡ none)
+unfolding conclusion owed
 no-more a (communicates x f z) h = absurd (h refl)
 no-more a (creates x y) h = ((λ i. absurd (i refl)), (λ i. refl))
 no-more a (user-action c x y z) h = ((λ i. refl), (λ i. absurd (i refl)))
@@ -64,7 +63,7 @@ module _ {b : List ℕ} {k : ℕ} (agent : ℕ) (r : rows.Row) (n : Numbered b k
   acted p e given = rw (user-action-kind (read-shape r n is) e) (given b (predicate-tells (r .code) (r .x) (r .y) (r .z)))
 
   -- The kind of the row is that of the tree.
-  kind : (m : ℕ) → (r .kind ≡ m → ⊥) → fieldsOf (treeIn (trees b) k) .kind ≡ m → ⊥
+  kind : (m : ℕ) → (r .kind ≡ m → ⊥) → kindOf (treeIn (trees b) k) ≡ m → ⊥
   unfolding rowMeant
   kind m other e = other (ap (λ (q : Row). q .kind) is ∙ tree-row b k (good-row n) .kind ∙ e)
 

@@ -3,19 +3,20 @@ use Prim.Native.Nat.{ℕ}
 use mathlib.Core.Path.{_≡_, sym, ap, _∙_}
 use mathlib.Core.Bool.{Bool, true, false, _&&_, and-false}
 use mathlib.Core.List.{List, [], _∷_}
-use Rattle.definition.proofs.Tests.{both-first, both-second}
+use Rattle.definition.proofs.Tests.{and-true, both-first, both-second}
+use Rattle.definition.proofs.OneNumber.{fields}
 use Rattle.definition.specs.12-Terms.{Sort, classOf, isParameter, isInstance}
-use Rattle.definition.specs.13-Formulas.{Formula, says, and, for-all, implies, same, put, isPolicy, firstPart, secondPart, source, target, sortOf}
+use Rattle.definition.specs.13-Formulas.{Formula, kindOf, says, and, for-all, implies, same, put, isPolicy, firstPart, secondPart, source, target, sortOf}
 use Rattle.definition.specs.14-Book.{rowAt, sortOfCode, treeIn, book as trees}
 use Rattle.formula_rows.specs.Meanings.{rowMeant}
 use Rattle.formula_rows.specs.declared.rows.Row as rows
-use Rattle.definition.proofs.OneNumber.{fieldsOf}
-use Rattle.formula_book.proofs.Laws.{other-kind, says-kind, and-kind, for-all-kind, implies-kind, body-policy}
-use Rattle.definition.proofs.TreeEquality.{same-refl}
+use Rattle.formula_book.proofs.Laws.{other-kind, owns-kind, says-kind, and-kind, for-all-kind, implies-kind, body-policy}
+use Rattle.definition.proofs.TreeEquality.{same-true, same-refl}
 use Rattle.definition.specs.11-Layout.{agentOf}
 use Rattle.definition.specs.17-Case.{Case, caseOf}
-use Rattle.definition.specs.21-Rules.{first, second, say, refine, andLeft, andRight, forAllIntro, forAllElim}
+use Rattle.definition.specs.21-Rules.{first, second, say, refine, andLeft, andRight, admitsParameter, admitsTerm, bodyWith}
 use Rattle.case_file.specs.LentCase.{Numbered}
+use Rattle.rules.specs.Misfits.{RowTells}
 use Rattle.rules.proofs.ComparedRows.{lower, read-shape}
 
 -- Formula k is made of the two formulas that its row r names, which are of the book too.
@@ -31,7 +32,7 @@ module _ {b : List ℕ} {k : ℕ} (r : rows.Row) (n : Numbered b k) (is : rowMea
 
   -- "X says F to Z"
   pub no-says : (r .kind ≡ 2 → ⊥) → (x : ℕ) (g : Formula) (z : ℕ) → same (treeIn (trees b) k) (says x g z) ≡ false
-  unfolding fieldsOf rowMeant
+  unfolding rowMeant
   no-says other x g z = other-kind (read-shape r n is) (says x g z) other
 
   module _ (e : r .kind ≡ 2) where
@@ -45,7 +46,7 @@ module _ {b : List ℕ} {k : ℕ} (r : rows.Row) (n : Numbered b k) (is : rowMea
 
   -- "F and G"
   pub no-and : (r .kind ≡ 3 → ⊥) → (f g : Formula) → same (treeIn (trees b) k) (and f g) ≡ false
-  unfolding fieldsOf rowMeant
+  unfolding rowMeant
   no-and other f g = other-kind (read-shape r n is) (and f g) other
 
   pub and-parts : r .kind ≡ 3 → TwoParts b k r and
@@ -54,7 +55,7 @@ module _ {b : List ℕ} {k : ℕ} (r : rows.Row) (n : Numbered b k) (is : rowMea
 
   -- "F implies G"
   pub no-implies : (r .kind ≡ 5 → ⊥) → (f g : Formula) → same (treeIn (trees b) k) (implies f g) ≡ false
-  unfolding fieldsOf rowMeant
+  unfolding rowMeant
   no-implies other f g = other-kind (read-shape r n is) (implies f g) other
 
   pub implies-parts : r .kind ≡ 5 → TwoParts b k r implies
@@ -63,7 +64,7 @@ module _ {b : List ℕ} {k : ℕ} (r : rows.Row) (n : Numbered b k) (is : rowMea
 
   -- for all
   pub no-for-all : (r .kind ≡ 4 → ⊥) → (σ : Sort) (f : Formula) → same (treeIn (trees b) k) (for-all σ f) ≡ false
-  unfolding fieldsOf rowMeant
+  unfolding rowMeant
   no-for-all other σ f = other-kind (read-shape r n is) (for-all σ f) other
 
   module _ (e : r .kind ≡ 4) where
@@ -144,26 +145,53 @@ module _ {b : List ℕ} {k : ℕ} (r : rows.Row) (n : Numbered b k) (is : rowMea
           (a : ℕ) → false ≡ refine (caseOf s) (treeIn (trees b) j) a (treeIn (trees b) k ∷ g ∷ [])
       unrefined q fails a = rw (refine-is a) (both-first _ q fails)
 
--- Rules 14 and 15: the for-all is formula k.
-module _ {b : List ℕ} {k : ℕ} (r : rows.Row) (n : Numbered b k) (is : rowMeant r ≡ rowAt b k) (f : Formula) (a : ℕ) where
-  pub no-for-all-intro : (r .kind ≡ 4 → ⊥) → (c : Case) → false ≡ forAllIntro c (treeIn (trees b) k) a (f ∷ [])
-  unfolding forAllIntro
-  no-for-all-intro other c = rw (no-for-all r n is other _ _)
+-- Rules 14 and 15: the for-all is formula k, and a the argument.
+module _ {b : List ℕ} {k : ℕ} (r : rows.Row) (n : Numbered b k) (is : rowMeant r ≡ rowAt b k) (a : ℕ) where
+  pub no-parameter : (r .kind ≡ 4 → ⊥) → false ≡ admitsParameter a (treeIn (trees b) k)
+  unfolding admitsParameter
+  no-parameter other = rw (no-for-all r n is other _ _)
 
-  pub no-for-all-elim : (r .kind ≡ 4 → ⊥) → (c : Case) → false ≡ forAllElim c f a (treeIn (trees b) k ∷ [])
-  unfolding forAllElim first
-  no-for-all-elim other c = rw (no-for-all r n is other _ _)
+  pub no-term : (r .kind ≡ 4 → ⊥) → false ≡ admitsTerm a (treeIn (trees b) k)
+  unfolding admitsTerm
+  no-term other = rw (no-for-all r n is other _ _)
 
   module _ {σ : Sort} (e : r .kind ≡ 4) (sort : σ ≡ sortOfCode (r .code)) where
     for-all-is : treeIn (trees b) k ≡ for-all σ (treeIn (trees b) (r .x))
     for-all-is = for-all-tree r n is e ∙ ap (λ τ. for-all τ (treeIn (trees b) (r .x))) (sym sort)
 
-    pub for-all-intro-is :
-        (c : Case) → forAllIntro c (treeIn (trees b) k) a (f ∷ []) ≡ isParameter σ (classOf a) && same f (put σ a 0 (treeIn (trees b) (r .x)))
-    unfolding forAllIntro first firstPart sortOf
-    for-all-intro-is c = rw (for-all-is, same-refl (for-all σ (treeIn (trees b) (r .x))))
+    pub parameter-admitted : admitsParameter a (treeIn (trees b) k) ≡ isParameter σ (classOf a)
+    unfolding admitsParameter firstPart sortOf
+    parameter-admitted = rw (for-all-is, same-refl (for-all σ (treeIn (trees b) (r .x))))
 
-    pub for-all-elim-is :
-        (c : Case) → forAllElim c f a (treeIn (trees b) k ∷ []) ≡ isInstance σ (classOf a) && same f (put σ a 0 (treeIn (trees b) (r .x)))
-    unfolding forAllElim first firstPart sortOf
-    for-all-elim-is c = rw (for-all-is, same-refl (for-all σ (treeIn (trees b) (r .x))))
+    pub term-admitted : admitsTerm a (treeIn (trees b) k) ≡ isInstance σ (classOf a)
+    unfolding admitsTerm firstPart sortOf
+    term-admitted = rw (for-all-is, same-refl (for-all σ (treeIn (trees b) (r .x))))
+
+    pub body-with : bodyWith a (treeIn (trees b) k) ≡ put σ a 0 (treeIn (trees b) (r .x))
+    unfolding bodyWith firstPart sortOf
+    body-with = rw for-all-is
+
+-- A formula for which an argument is admitted is a for-all.
+module _ (a : ℕ) (g : Formula) where
+  for-all-of : (q : Bool) → same g (for-all (sortOf g) (firstPart g)) && q ≡ true → kindOf g ≡ 4
+  for-all-of q e = ap kindOf (same-true g (for-all (sortOf g) (firstPart g)) (and-true (same g (for-all (sortOf g) (firstPart g))) q e .0))
+
+  pub parameter-kind : admitsParameter a g ≡ true → kindOf g ≡ 4
+  unfolding admitsParameter
+  parameter-kind = for-all-of (isParameter (sortOf g) (classOf a))
+
+  pub term-kind : admitsTerm a g ≡ true → kindOf g ≡ 4
+  unfolding admitsTerm
+  term-kind = for-all-of (isInstance (sortOf g) (classOf a))
+
+-- What the row of formula k tells.
+pub told : {b : List ℕ} {k : ℕ} (r : rows.Row) → Numbered b k → rowMeant r ≡ rowAt b k → RowTells r (treeIn (trees b) k)
+unfolding rowMeant source target
+told r n is =
+    let shape = read-shape r n is in
+    record {
+      kind = fields shape .kind;
+      owner = λ e. sym (ap source (owns-kind shape e));
+      source = λ e. sym (ap source (says-tree r n is e));
+      target = λ e. sym (ap target (says-tree r n is e));
+    }

@@ -7,3 +7,4 @@ pub mod SeenRowRule
 pub mod RuleNumbers
 pub mod ShapedStepLaws
 pub mod OwnedData
+pub mod PremiseFaults

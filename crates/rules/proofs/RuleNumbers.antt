@@ -1,9 +1,10 @@
--- The rules by their numbers: how many premises each has, and what its argument names. Assumes nothing.
+-- The rules by their numbers: how many premises each has, what its argument names, and what it asks. Assumes nothing.
 use Prim.Native.Nat.{ℕ, _≤_, _<_}
 use mathlib.Core.Path.{_≡_, refl}
 use mathlib.Core.Logic.{_⊎_, inl, inr, ⊎-elim}
-use mathlib.Core.List.{List}
+use mathlib.Core.List.{List, [], _∷_}
 use native.Mathlib.Omega.{arith}
+use lib.ListN.{getD, List·getD-eq-default}
 use borrow.Author.Tests.{eq-eqb}
 use Rattle.definition.specs.01-Words.{absent}
 use Rattle.definition.proofs.RangeLaws.{each-at}
@@ -12,7 +13,7 @@ use Rattle.definition.proofs.Tests.{not-both}
 use Rattle.definition.specs.11-Layout.{condition-part, obligation-part, label-part, count}
 use Rattle.definition.specs.15-Records.{logOf, rowsIn}
 use Rattle.definition.specs.17-Case.{caseOf}
-use Rattle.definition.specs.21-Rules.{Names, nothing, a-label, a-condition, a-row, an-obligation, a-term, rule, rules, ruleAt}
+use Rattle.definition.specs.21-Rules.{Names, nothing, a-label, a-condition, a-row, an-obligation, a-term, noInstance, Asked, anything, an-implies, agent-says, inTurn, rule, rules, ruleAt}
 use Rattle.definition.specs.22-Steps.{citesAbsent, citesNothing}
 use Rattle.case_parts.specs.ShapedSteps.{CitedEntry}
 use Rattle.rules.specs.PremiseFormulas.{OneOfThree, Argued, Premised}
@@ -70,6 +71,9 @@ module _ (s : List ℕ) (a : ℕ) where
 -- What holds of three rules.
 of-three : (P : ℕ → Type 0) {r a b c : ℕ} → P a → P b → P c → OneOfThree r a b c → P r
 of-three P x y z h = ⊎-elim (λ e. rw e x) (⊎-elim (λ e. rw e y) (λ e. rw e z)) h
+
+pub first-three : {r : ℕ} → OneOfThree r 0 1 2 → r < 3
+first-three h = of-three (λ q. q < 3) (omega arith) (omega arith) (omega arith) h
 
 -- What the argument names.
 pub names-label : {r : ℕ} → OneOfThree r 9 11 13 → ruleAt r .names ≡ a-label
@@ -151,3 +155,44 @@ one-of-sixteen r lt =
 
 pub premised : (r : ℕ) → r < 16 → (r ≡ 0 → ⊥) → (r ≡ 1 → ⊥) → (r ≡ 2 → ⊥) → (r ≡ 5 → ⊥) → Premised r
 premised r lt a b c d = ⊎-elim (λ h. absurd (⊎-elim d (none-of a b c) h)) (λ h. h) (one-of-sixteen r lt)
+
+-- Only rules 14 and 15 have an instance.
+pub no-instance : (r : ℕ) → r < 16 → (r ≡ 14 → ⊥) → (r ≡ 15 → ⊥) → ruleAt r .otherInstance ≡ noInstance
+unfolding rule rules ruleAt
+no-instance r lt =
+    each-at (λ r. (r ≡ 14 → ⊥) → (r ≡ 15 → ⊥) → ruleAt r .otherInstance ≡ noInstance) 16 0
+    (λ a b. refl, (λ a b. refl, (λ a b. refl, (λ a b. refl, (λ a b. refl, (λ a b. refl, (λ a b. refl, (λ a b. refl, (λ a b. refl, (λ a b. refl, (λ a b. refl, (λ a b. refl, (λ a b. refl, (λ a b. refl, (λ a b. absurd (a refl), (λ a b. absurd (b refl), tt))))))))))))))))
+    r (omega arith) (omega arith)
+
+-- What is asked of the first premise and of the others, where the rule is none of those that ask.
+abbrev pub NoneOf : ℕ → List ℕ → Type 0
+NoneOf r [] = Unit {0}
+NoneOf r (n ∷ ns) = (r ≡ n → ⊥) × NoneOf r ns
+
+abbrev pub askingFirst : List ℕ
+askingFirst = 3 ∷ 4 ∷ 5 ∷ 7 ∷ 8 ∷ 10 ∷ 12 ∷ 13 ∷ 15 ∷ []
+
+pub nothing-first : (r : ℕ) → r < 16 → NoneOf r askingFirst → ruleAt r .asks 0 ≡ anything
+unfolding rule rules ruleAt inTurn
+nothing-first r lt =
+    each-at (λ r. NoneOf r askingFirst → ruleAt r .asks 0 ≡ anything) 16 0
+    (λ h. refl, (λ h. refl, (λ h. refl, (λ h. absurd (h .0 refl), (λ h. absurd (h .1 .0 refl), (λ h. absurd (h .1 .1 .0 refl), (λ h. refl, (λ h. absurd (h .1 .1 .1 .0 refl), (λ h. absurd (h .1 .1 .1 .1 .0 refl), (λ h. refl, (λ h. absurd (h .1 .1 .1 .1 .1 .0 refl), (λ h. refl, (λ h. absurd (h .1 .1 .1 .1 .1 .1 .0 refl), (λ h. absurd (h .1 .1 .1 .1 .1 .1 .1 .0 refl), (λ h. refl, (λ h. absurd (h .1 .1 .1 .1 .1 .1 .1 .1 .0 refl), tt))))))))))))))))
+    r (omega arith) (omega arith)
+
+-- A further premise.
+pub nothing-further : (r : ℕ) → r < 16 → (r ≡ 4 → ⊥) → (r ≡ 5 → ⊥) → (i : ℕ) → 0 < i → ruleAt r .asks i ≡ anything
+unfolding rule rules ruleAt inTurn
+nothing-further r lt =
+    each-at (λ r. (r ≡ 4 → ⊥) → (r ≡ 5 → ⊥) → (i : ℕ) → 0 < i → ruleAt r .asks i ≡ anything) 16 0
+    (λ a b. none, (λ a b. none, (λ a b. none, (λ a b. one _, (λ a b. absurd (a refl), (λ a b. absurd (b refl), (λ a b. none, (λ a b. one _, (λ a b. one _, (λ a b. none, (λ a b. one _, (λ a b. none, (λ a b. one _, (λ a b. one _, (λ a b. none, (λ a b. one _, tt))))))))))))))))
+    r (omega arith) (omega arith)
+  where
+    none : (i : ℕ) → 0 < i → getD [] i anything ≡ anything
+    none i lt = refl
+
+    one : (q : Asked) (i : ℕ) → 0 < i → getD (q ∷ []) i anything ≡ anything
+    one q i lt = List·getD-eq-default (q ∷ []) anything lt
+
+pub behind-refine : (i : ℕ) → 1 < i → ruleAt 4 .asks i ≡ anything
+unfolding rule rules ruleAt inTurn
+behind-refine i lt = List·getD-eq-default (an-implies ∷ agent-says ∷ []) anything lt

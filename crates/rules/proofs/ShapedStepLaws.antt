@@ -2,24 +2,25 @@
 use Prim.Native.Nat.{ℕ, zero, suc, _+_, _≤_, _<_}
 use mathlib.Core.Path.{_≡_, refl, sym, ap, _∙_}
 use mathlib.Core.Bool.{Bool, true, false, not, _&&_}
-use mathlib.Core.Logic.{_⊎_}
+use mathlib.Core.Logic.{_⊎_, inr}
 use mathlib.Core.List.{List, [], _∷_, map}
 use native.Mathlib.Omega.{arith}
 use lib.Dec.{eqb, ltb}
 use borrow.Author.Tests.{ltb-false, not-false}
 use Rattle.definition.specs.01-Words.{absent}
 use Rattle.definition.specs.02-Ranges.{listed}
-use Rattle.definition.specs.04-Checks.{Checked, single, inOrder}
+use Rattle.definition.specs.04-Checks.{Checked, refuses, single, inOrder}
+use Rattle.definition.proofs.CheckLaws.{goes-on, stops, skip-before}
 use Rattle.definition.proofs.Tests.{and-true, or-false}
 use Rattle.definition.specs.13-Formulas.{isPolicy, closed}
 use Rattle.definition.specs.14-Book.{treeIn, book as trees}
-use Rattle.definition.specs.11-Layout.{formula-part, step-part, premise-part, count}
+use Rattle.definition.specs.11-Layout.{formula-part, step-part, premise-part, count, agentOf}
 use Rattle.definition.specs.15-Records.{formulas, stepRule, stepFormula, stepArgument, stepFrom, stepCount, premiseStep, badSpan}
 use Rattle.definition.specs.17-Case.{caseOf}
 use Rattle.case_file.proofs.Laws.{formula-named}
 use Rattle.definition.proofs.Spans.{span-holds}
-use Rattle.definition.specs.21-Rules.{ruleAt}
-use Rattle.definition.specs.22-Steps.{ruleOf, premisesOf, mustBeAbsent, misshapen, misfit, fitChecks}
+use Rattle.definition.specs.21-Rules.{first, admitsParameter, admitsTerm, isOtherKind, isOtherParty, anyFaulty, forAllIntro, forAllElim, otherPremise, otherFormula, noInstance, rule, rules, ruleAt}
+use Rattle.definition.specs.22-Steps.{ruleOf, premisesOf, mustBeAbsent, misshapen, premiseFormulas, wrongKind, wrongParty, wrongInstance, misfit, fitChecks}
 use Rattle.case_file.specs.LentCase.{Lent, Numbered}
 use Rattle.case_parts.specs.Records.{StepFields}
 use Rattle.case_parts.specs.ShapedSteps.{CitedEntry, ShapedStep}
@@ -27,7 +28,7 @@ use Rattle.rules.specs.PremiseFormulas.{PremiseThere, PremisesThere, pre
 use Rattle.case_parts.specs.declared.records.Step.{Step}
 use Rattle.case_file.proofs.LentCaseLaws.{parted, steps-few, numbered}
 use Rattle.rules.proofs.CitedFormulas.{named}
-use Rattle.rules.proofs.RuleNumbers.{some-premise, of-two, of-one, without-premise}
+use Rattle.rules.proofs.RuleNumbers.{first-three, some-premise, of-two, of-one, without-premise, no-instance}
 
 map-listed : {A B : Type 0} (f : A → B) (g : ℕ → A) (n i : ℕ) → map f (listed g n i) ≡ listed (λ j. f (g j)) n i
 unfolding listed
@@ -37,6 +38,11 @@ map-listed {B} f g (suc n) i = ap {B = List B} (λ l. f (g i) ∷ l) (map-listed
 not-not : (b : Bool) → b ≡ not (not b)
 not-not true = refl
 not-not false = refl
+
+-- An argument that is admitted, where the rule does not fit: it is another instance.
+admitted-other : (admits is : Bool) → admits && is ≡ false → admits ≡ admits && not is
+admitted-other true is e = sym (ap not e)
+admitted-other false is e = refl
 
 -- What check 12 tests of step k, one by one.
 pub record Shaped (s : List ℕ) (k : ℕ) : Type 0 where
@@ -97,13 +103,19 @@ module _ {s b : List ℕ} {k : ℕ} (lent : Lent s b) (st : ShapedStep s k) {t :
   unfolding ruleOf caseOf
   cites = rw (is .rule, is .argument) (st .cites)
 
-  -- The test of the rule, on what was read of the step.
+  -- The premises' formulas, and the tests of the rule, on what was read of the step.
+  pub premises-are : premiseTrees s (t .from) (t .len) ≡ premiseFormulas (caseOf s) k
+  unfolding premiseFormulas premisesOf caseOf premiseTrees
+  premises-are = rw (is .from, is .len) (sym (map-listed (λ p. treeIn (formulas s) (stepFormula s p)) (premiseStep s) (stepCount s k) (stepFrom s k)))
+
+  pub rule-is : ruleAt (t .rule) ≡ ruleOf (caseOf s) k
+  unfolding ruleOf caseOf
+  rule-is = ap ruleAt (is .rule)
+
   pub fits-is :
       ruleAt (t .rule) .fits (caseOf s) (treeIn (trees b) (t .formula)) (t .argument) (premiseTrees s (t .from) (t .len)) ≡ not (misfit (caseOf s) k)
-  unfolding misfit ruleOf premisesOf caseOf premiseTrees
-  fits-is =
-      let ps = map-listed (λ p. treeIn (formulas s) (stepFormula s p)) (premiseStep s) (stepCount s k) (stepFrom s k) in
-      rw (is .rule, named lent (is .formula), is .argument, is .from, is .len, ps) (not-not _)
+  unfolding misfit caseOf
+  fits-is = rw (rule-is, named lent (is .formula), is .argument, premises-are) (not-not _)
 
   module _ {q : Bool} where
     -- no premise, one premise, two
@@ -140,20 +152,77 @@ module _ {s b : List ℕ} {k : ℕ} (lent : Lent s b) (st : ShapedStep s k) {t :
   pub by-none : OneOfThree (t .rule) 0 1 2 → t .len ≡ 0
   by-none = without-premise least-premises most-premises
 
-  -- Check 18, from the answer q of the test.
-  pub refused : (q : Bool) {x : Checked (Unit {0})} → q ≡ not (misfit (caseOf s) k) → x ≡ inOrder (single 18 k (not q) ∷ []) → x ≡ inOrder (fitChecks (caseOf s) k)
-  unfolding fitChecks
-  refused q e h = h ∙ ap (λ b. inOrder (single 18 k b ∷ [])) (ap not e ∙ sym (not-not (misfit (caseOf s) k)))
+  -- The tests of 24, 25 and 26, on what was read.
+  pub kind-is : anyFaulty isOtherKind (ruleAt (t .rule) .asks) 0 (premiseTrees s (t .from) (t .len)) ≡ wrongKind (caseOf s) k
+  unfolding wrongKind
+  kind-is = rw (rule-is, premises-are)
 
+  pub party-is : {agent : ℕ} → agent ≡ agentOf s → anyFaulty (isOtherParty agent) (ruleAt (t .rule) .asks) 0 (premiseTrees s (t .from) (t .len)) ≡ wrongParty (caseOf s) k
+  unfolding wrongParty caseOf
+  party-is agent = rw (agent, rule-is, premises-are)
+
+  instance-is :
+      ruleAt (t .rule) .otherInstance (caseOf s) (treeIn (trees b) (t .formula)) (t .argument) (premiseTrees s (t .from) (t .len)) ≡ wrongInstance (caseOf s) k
+  unfolding wrongInstance caseOf
+  instance-is = rw (rule-is, named lent (is .formula), is .argument, premises-are)
+
+  none-other : ruleAt (t .rule) .otherInstance ≡ noInstance → wrongInstance (caseOf s) k ≡ false
+  unfolding noInstance
+  none-other none = sym (rw none at instance-is)
+
+  pub no-other-instance : (t .rule ≡ 14 → ⊥) → (t .rule ≡ 15 → ⊥) → wrongInstance (caseOf s) k ≡ false
+  no-other-instance a b = none-other (no-instance (t .rule) rule-number a b)
+
+  -- A rule without premises: check 18 alone, from the answer q of the test.
   pub refused-none :
       (r : ℕ) → t .rule ≡ r → OneOfThree r 0 1 2 → (q : Bool) {x : Checked (Unit {0})} → q ≡ ruleAt r .fits (caseOf s) (treeIn (trees b) (t .formula)) (t .argument) [] →
       x ≡ inOrder (single 18 k (not q) ∷ []) → x ≡ inOrder (fitChecks (caseOf s) k)
-  refused-none r e which q fits = refused q (fits-none (by-none (rw e which)) (rw e fits))
+  unfolding fitChecks premiseTrees listed anyFaulty
+  refused-none r e which q fits h =
+      let len = by-none (rw e which) in
+      let few = first-three which in
+      let kind : wrongKind (caseOf s) k ≡ false = sym (rw len at kind-is) in
+      let party : wrongParty (caseOf s) k ≡ false = sym (rw len at (party-is refl)) in
+      let inst : wrongInstance (caseOf s) k ≡ false = no-other-instance (λ z. omega arith) (λ z. omega arith) in
+      let test : q ≡ ruleAt (t .rule) .fits (caseOf s) (treeIn (trees b) (t .formula)) (t .argument) [] = rw e fits in
+      let fault : not q ≡ misfit (caseOf s) k = ap not (fits-none len test) ∙ sym (not-not (misfit (caseOf s) k)) in
+      h ∙ ap (λ b. inOrder (single 18 k b ∷ [])) fault
+      ∙ sym (skip-before (single 24 k _ ∷ single 25 k _ ∷ single 26 k _ ∷ []) (single 18 k _ ∷ []) (kind, (party, (inst, tt))))
 
-  pub refused-all :
-      (r : ℕ) → t .rule ≡ r → (q : Bool) {x : Checked (Unit {0})} → q ≡ ruleAt r .fits (caseOf s) (treeIn (trees b) (t .formula)) (t .argument) (premiseTrees s (t .from) (t .len)) →
-      x ≡ inOrder (single 18 k (not q) ∷ []) → x ≡ inOrder (fitChecks (caseOf s) k)
-  refused-all r e q fits = refused q (rw e fits ∙ fits-is)
+  -- A step that does not fit, and its number from the answers of the three tests.
+  module _ (misfits : misfit (caseOf s) k ≡ true) where
+    unfit : ruleAt (t .rule) .fits (caseOf s) (treeIn (trees b) (t .formula)) (t .argument) (premiseTrees s (t .from) (t .len)) ≡ false
+    unfit = fits-is ∙ ap not misfits
+
+    pub other-premise : t .rule ≡ 14 → admitsParameter (t .argument) (treeIn (trees b) (t .formula)) ≡ wrongInstance (caseOf s) k
+    unfolding ruleAt rules rule otherPremise forAllIntro
+    other-premise e = admitted-other _ _ (rw e at unfit) ∙ (rw e at instance-is)
+
+    pub other-formula : {p : ℕ} → t .rule ≡ 15 → p ≡ stepFormula s (premiseStep s (t .from)) → admitsTerm (t .argument) (treeIn (trees b) p) ≡ wrongInstance (caseOf s) k
+    unfolding ruleAt rules rule otherFormula forAllElim first premiseTrees listed
+    other-formula e premise =
+        let argued : Argued (t .rule) = inr (inr (inr e)) in
+        let most : t .len ≤ 1 = rw e at most-premises in
+        let len : t .len ≡ 1 = by-one (inr (inr argued)) (λ two. omega arith) .1 in
+        rw (named lent premise) (admitted-other _ _ (rw (e, len) at unfit) ∙ (rw (e, len) at instance-is))
+
+    pub is-24 : wrongKind (caseOf s) k ≡ true → refuses 24 k ≡ inOrder (fitChecks (caseOf s) k)
+    unfolding fitChecks
+    is-24 e = sym (stops _ _ 24 k (refl, refl, e))
+
+    module _ (kind : wrongKind (caseOf s) k ≡ false) where
+      pub is-25 : wrongParty (caseOf s) k ≡ true → refuses 25 k ≡ inOrder (fitChecks (caseOf s) k)
+      unfolding fitChecks
+      is-25 e = sym (goes-on _ _ kind ∙ stops _ _ 25 k (refl, refl, e))
+
+      module _ (party : wrongParty (caseOf s) k ≡ false) where
+        pub is-26 : wrongInstance (caseOf s) k ≡ true → refuses 26 k ≡ inOrder (fitChecks (caseOf s) k)
+        unfolding fitChecks
+        is-26 e = sym (goes-on _ _ kind ∙ goes-on _ _ party ∙ stops _ _ 26 k (refl, refl, e))
+
+        pub is-18 : wrongInstance (caseOf s) k ≡ false → refuses 18 k ≡ inOrder (fitChecks (caseOf s) k)
+        unfolding fitChecks
+        is-18 e = sym (goes-on _ _ kind ∙ goes-on _ _ party ∙ goes-on _ _ e ∙ stops _ _ 18 k (refl, refl, misfits))
 
   -- The step's number fits 16 bits.
   pub place-few : k < 2048

@@ -1,2 +1,3 @@
 pub mod Policies
 pub mod PremiseFormulas
+pub mod Misfits

@@ -1,4 +1,4 @@
-// The sixteen rules: check 18. Formulas are given by their numbers: `f` is the step's own, `p` and `q` are its premises'.
+// The sixteen rules, a test each. Formulas are given by their numbers: `f` is the step's own, `p` and `q` are its premises'.
 use crate::comparisons::is_after;
 use crate::comparisons::is_and;
 use crate::comparisons::is_implies;
@@ -19,7 +19,7 @@ ghost use mathlib.Core.List.{[], _∷_, map};
 ghost use Prim.Native.Nat.{ℕ, _≤_, _<_};
 ghost use lib.ListN.{length};
 ghost use Rattle.definition.specs.04-Checks.{single, inOrder};
-ghost use Rattle.definition.specs.13-Formulas.{owns, isPolicy, dataOf};
+ghost use Rattle.definition.specs.13-Formulas.{owns, same, kindOf, isPolicy, dataOf};
 ghost use Rattle.definition.specs.14-Book.{sortOfCode, treeIn, book as trees};
 ghost use Rattle.formula_walks.specs.DataLists.{front};
 ghost use Rattle.formula_rows.specs.Meanings.{sortMeant};
@@ -28,7 +28,7 @@ ghost use Rattle.definition.specs.15-Records.{logOf, rowsIn, stepFormula, premi
 ghost use Rattle.definition.specs.18-Admission.{Parted};
 ghost use Rattle.definition.specs.17-Case.{Case, caseOf};
 ghost use Rattle.definition.specs.21-Rules as definition;
-ghost use Rattle.definition.specs.22-Steps.{misfit, fitChecks};
+ghost use Rattle.definition.specs.22-Steps.{misfit};
 ghost use Rattle.case_file.specs.LentCase.{Lent, CaseLent, Numbered};
 ghost use Rattle.words.specs.Meanings.{failureMeant};
 ghost use Rattle.case_parts.specs.Records.{StepFields};
@@ -36,7 +36,7 @@ ghost use Rattle.case_parts.specs.ShapedSteps.{CitedEntry, ShapedStep};
 ghost use Rattle.rules.specs.PremiseFormulas.{PremiseThere, PremisesThere, premiseTrees, OneOfThree, Argued, Premised};
 
 // Check 18 of the step at `place`, by whether its rule fits.
-fn refusal(fits: bool, place: u16) -> Failure
+pub fn refusal(fits: bool, place: u16) -> Failure
     ensures { λ r. ⌜ failureMeant r ≡ inOrder (single 18 place (not fits) ∷ []) ⌝ }
 {
     if fits {
@@ -46,7 +46,7 @@ fn refusal(fits: bool, place: u16) -> Failure
 }
 
 // 0 "suppose label (mark 0)".
-fn suppose(file: &[u8], book: &[u8], f: u16, label: u16) -> bool
+pub fn suppose(file: &[u8], book: &[u8], f: u16, label: u16) -> bool
     requires { ⌜ Lent (now file) (now book) × Numbered (now book) f ⌝ }
     requires { ⌜ label < count (now file) label-part ⌝ }
     ensures { λ r. ⌜ r ≡ definition.suppose (caseOf (now (file .entry))) (treeIn (trees (now (book .entry))) f) label [] ⌝ }
@@ -59,7 +59,7 @@ fn suppose(file: &[u8], book: &[u8], f: u16, label: u16) -> bool
 }
 
 // 1 "condition row". An absent condition is no formula's number.
-fn condition_row(file: &[u8], book: &[u8], f: u16, condition: u16) -> bool
+pub fn condition_row(file: &[u8], book: &[u8], f: u16, condition: u16) -> bool
     requires { ⌜ Lent (now file) (now book) × Numbered (now book) f ⌝ }
     requires { ⌜ condition < count (now file) condition-part ⌝ }
     ensures { λ r. ⌜ r ≡ definition.conditionRow (caseOf (now (file .entry))) (treeIn (trees (now (book .entry))) f) condition [] ⌝ }
@@ -68,7 +68,14 @@ fn condition_row(file: &[u8], book: &[u8], f: u16, condition: u16) -> bool
 }
 
 // 2 "seen row: the row's conclusion for the agent". "Where a row has no conclusion for this agent, the step does not fit." The step is at `place`.
-fn seen_row(file: &[u8], book: &[u8], views: &[u16; 1024], f: u16, row: u16, place: u16) -> Failure
+pub fn seen_row(
+    file: &[u8],
+    book: &[u8],
+    views: &[u16; 1024],
+    f: u16,
+    row: u16,
+    place: u16,
+) -> Failure
     requires { ⌜ CaseLent (now file) (now book) (now views) × Numbered (now book) f ⌝ }
     requires { ⌜ row < rowsIn (logOf (now file)) ⌝ }
     ensures { λ r. ⌜ failureMeant r ≡ inOrder (single 18 place (not (definition.seenRow (caseOf (now (file .entry))) (treeIn (trees (now (book .entry))) f) row [])) ∷ []) ⌝ }
@@ -194,20 +201,50 @@ fn sort_of(code: u8) -> Sort
     Sort::Data
 }
 
+// Is formula `g` a for-all, and the argument a parameter of its sort?
+pub fn admits_parameter(book: &[u8], g: u16, argument: u16) -> bool
+    requires { ⌜ Numbered (now book) g ⌝ }
+    ensures { λ r. ⌜ r ≡ definition.admitsParameter argument (treeIn (trees (now (book .entry))) g) ⌝ }
+{
+    let row = formula_rows::row_at(book, g as usize);
+    if row.kind != 4 {
+        return false;
+    }
+    Term::of(argument).is_parameter(sort_of(row.code))
+}
+
+// Is formula `g` a for-all, and the argument an agent, data or parameter of its sort?
+pub fn admits_term(book: &[u8], g: u16, argument: u16) -> bool
+    requires { ⌜ Numbered (now book) g ⌝ }
+    ensures { λ r. ⌜ r ≡ definition.admitsTerm argument (treeIn (trees (now (book .entry))) g) ⌝ }
+{
+    let row = formula_rows::row_at(book, g as usize);
+    if row.kind != 4 {
+        return false;
+    }
+    formula_rows::is_instance(sort_of(row.code), argument)
+}
+
+// Is formula `f` the body of the for-all `g`, with the term put in?
+fn is_body(book: &[u8], g: u16, term: u16, f: u16) -> bool
+    requires { ⌜ Numbered (now book) g × Numbered (now book) f ⌝ }
+    requires { ⌜ kindOf (treeIn (trees (now book)) g) ≡ 4 ⌝ }
+    ensures { λ r. ⌜ r ≡ same (treeIn (trees (now (book .entry))) f) (definition.bodyWith term (treeIn (trees (now (book .entry))) g)) ⌝ }
+{
+    let row = formula_rows::row_at(book, g as usize);
+    let sort = sort_of(row.code);
+    formula_book::is_body_with(book, sort, term, row.x as usize, f as usize)
+}
+
 // 14 "from the body with a parameter put in: for all; argument the parameter".
 fn for_all_intro(book: &[u8], f: u16, parameter: u16, p: u16) -> bool
     requires { ⌜ Numbered (now book) f × Numbered (now book) p ⌝ }
     ensures { λ r. ⌜ ((c : Case) → r ≡ definition.forAllIntro c (treeIn (trees (now (book .entry))) f) parameter (treeIn (trees (now (book .entry))) p ∷ [])) ⌝ }
 {
-    let own = formula_rows::row_at(book, f as usize);
-    if own.kind != 4 {
-        return false;
+    if admits_parameter(book, f, parameter) {
+        return is_body(book, f, parameter, p);
     }
-    let sort = sort_of(own.code);
-    if !Term::of(parameter).is_parameter(sort) {
-        return false;
-    }
-    formula_book::is_body_with(book, sort, parameter, own.x as usize, p as usize)
+    false
 }
 
 // 15 "from for all: the body with the argument (agent, data or parameter of the sort)".
@@ -215,19 +252,14 @@ fn for_all_elim(book: &[u8], f: u16, term: u16, p: u16) -> bool
     requires { ⌜ Numbered (now book) f × Numbered (now book) p ⌝ }
     ensures { λ r. ⌜ ((c : Case) → r ≡ definition.forAllElim c (treeIn (trees (now (book .entry))) f) term (treeIn (trees (now (book .entry))) p ∷ [])) ⌝ }
 {
-    let premise = formula_rows::row_at(book, p as usize);
-    if premise.kind != 4 {
-        return false;
+    if admits_term(book, p, term) {
+        return is_body(book, p, term, f);
     }
-    let sort = sort_of(premise.code);
-    if !formula_rows::is_instance(sort, term) {
-        return false;
-    }
-    formula_book::is_body_with(book, sort, term, premise.x as usize, f as usize)
+    false
 }
 
 // The formula of the step that premise entry `j` names.
-fn premise_formula(file: &[u8], j: usize) -> u16
+pub fn premise_formula(file: &[u8], j: usize) -> u16
     requires { ⌜ Parted (now file) × PremiseThere (now file) j ⌝ }
     ensures { λ r. ⌜ r ≡ stepFormula (now (file .entry)) (premiseStep (now (file .entry)) j) ⌝ }
 {
@@ -274,7 +306,7 @@ fn owns_data(file: &[u8], book: &[u8], agent: u16, f: usize, from: usize, len: u
 }
 
 // 5 "owner: "agent says F to B" from 1 to 16 premises "agent owns D", D strictly ascending and exactly the data objects and data parameters in the formula, actions included; no data variable in it".
-fn owner(file: &[u8], book: &[u8], f: u16, from: u16, len: u16) -> bool
+pub fn owner(file: &[u8], book: &[u8], f: u16, from: u16, len: u16) -> bool
     requires { ⌜ Lent (now file) (now book) × PremisesThere (now file) from len ⌝ }
     requires { ⌜ Numbered (now book) f ⌝ }
     ensures { λ r. ⌜ ((a : ℕ) → r ≡ definition.owner (caseOf (now (file .entry))) (treeIn (trees (now (book .entry))) f) a (premiseTrees (now (file .entry)) from len)) ⌝ }
@@ -348,7 +380,7 @@ fn by_argument(file: &[u8], book: &[u8], rule: u16, f: u16, argument: u16, p: u1
 }
 
 // The rules that have one premise or two, but for 5.
-fn from_premises(file: &[u8], book: &[u8], k: usize, step: Step) -> bool
+pub fn from_premises(file: &[u8], book: &[u8], k: usize, step: Step) -> bool
     requires { ⌜ Lent (now file) (now book) ⌝ }
     requires { ⌜ ShapedStep (now file) k × StepFields (now file) k step ⌝ }
     requires { ⌜ Premised (step .rule) ⌝ }
@@ -364,24 +396,4 @@ fn from_premises(file: &[u8], book: &[u8], k: usize, step: Step) -> bool
         return from_one(file, book, step.rule, step.formula, p);
     }
     by_argument(file, book, step.rule, step.formula, step.argument, p)
-}
-
-// Check 18 of step `k`.
-pub fn check_fit(file: &[u8], book: &[u8], views: &[u16; 1024], k: usize, step: Step) -> Failure
-    requires { ⌜ CaseLent (now file) (now book) (now views) ⌝ }
-    requires { ⌜ ShapedStep (now file) k × StepFields (now file) k step ⌝ }
-    ensures { λ r. ⌜ failureMeant r ≡ inOrder (fitChecks (caseOf (now (file .entry))) k) ⌝ }
-{
-    let place = k as u16;
-    let rule = step.rule;
-    match rule {
-        0 => refusal(suppose(file, book, step.formula, step.argument), place),
-        1 => refusal(
-            condition_row(file, book, step.formula, step.argument),
-            place,
-        ),
-        2 => seen_row(file, book, views, step.formula, step.argument, place),
-        5 => refusal(owner(file, book, step.formula, step.from, step.len), place),
-        _ => refusal(from_premises(file, book, k, step), place),
-    }
 }

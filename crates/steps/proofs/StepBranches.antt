@@ -1,4 +1,4 @@
--- Checks 12 to 19 of a step, by where the code stops, and the tables after it. Assumes nothing.
+-- The checks of a step, by where the code stops, and the tables after it. Assumes nothing.
 use Prim.Native.Nat.{ℕ, _<_}
 use mathlib.Core.Path.{_≡_, refl, sym, ap, _∙_}
 use mathlib.Core.Bool.{Bool, true, false, cond}
@@ -44,12 +44,12 @@ module _ (c : Case) (k : ℕ) (s : State) where
     unfolding shapeChecks
     shape-cited free = sym (skip-before (single 12 k (misshapen c k) ∷ single 13 k (badPremises (usedIn s) k (premisesOf c k)) ∷ []) _ (fine, (free, tt)))
 
-  -- Where they all hold, 17 to 19 decide.
+  -- Where they all hold, the checks of the uses decide.
   pub shape-passed : accepts tt ≡ inOrder (shapeChecks c k s) → inOrder (useChecks c k s) ≡ inOrder (stepChecks c k s)
   unfolding stepChecks
   shape-passed e = sym (skip-before (shapeChecks c k s) (useChecks c k s) (all-hold (shapeChecks c k s) (sym e)))
 
--- Checks 17 to 19, from what was found of the labels above.
+-- Checks 17 and 19, from what was found of the labels above.
 module _ (c : Case) (k : ℕ) (s : State) (discharged : ℕ → Bool) (labels : ℕ → Bool) (shared : Bool) (d : s .discharged ≡ discharged) (above : AboveIn c k s labels shared) where
   pub twice-is : twiceUsed c (shapeOf (ruleOf c k)) (c .step k .argument) discharged labels shared ≡ usedTwice c s (ruleOf c k) (c .step k .argument) (premisesOf c k)
   unfolding twiceUsed usedTwice shapeOf ruleShape
@@ -117,7 +117,7 @@ module _ (s : List ℕ) (k : ℕ) (l : List ℕ) (d : List Bool) where
           shaped-step inside earlier =
               record { inside = inside; shaped = fine; earlier = earlier; premises = rw (← e, ← f) premises-below; cites = cited-entry k (sym (ap failureMeant told) ∙ is) }
 
-          -- 17 to 19 decide.
+          -- the checks of the uses decide.
           pub judged-use :
               (r : Judged) (above : Above) → r .above ≡ above .labels → IsAbove s from len l′ above →
               ((st : State) → st .discharged ≡ marks d → AboveIn (caseOf s) k st (labelsOf (above .labels .bits)) (above .shared) → failureMeant (r .fault) ≡ inOrder (useChecks (caseOf s) k st)) →

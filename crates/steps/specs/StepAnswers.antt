@@ -40,7 +40,7 @@ aboveTold c k s = byRun (inOrder (shapeChecks c k s)) (joined (opensIn s) (premi
 abbrev pub RefusedBy : (number place : ℕ) → Judged → Type 0
 RefusedBy n p r = (failureMeant (r .fault) ≡ refuses n p) × (labelsOf (r .above .bits) ≡ (λ l. false))
 
--- What checks 12 to 19 find of step k, and every entry of the table of steps. The rows cited have no part in it.
+-- What its checks find of step k, and every entry of the table of steps. The rows cited have no part in it.
 pub record JudgedAs (f : List ℕ) (k : ℕ) (l : List ℕ) (d : List Bool) (r : Judged) (l′ : List ℕ) : Type 0 where
   pub long : length l′ ≡ 2048
   pub is : (c : List Bool) → failureMeant (r .fault) ≡ inOrder (stepChecks (caseOf f) k (stateOf l c d))

@@ -1,4 +1,4 @@
-// One step of a justification: checks 12 to 19 in order, what it uses, and what it leaves behind.
+// One step of a justification: its checks in order, what it uses, and what it leaves behind.
 mod fresh;
 mod step;
 mod uses;

@@ -1,4 +1,4 @@
-// A step: checks 12 to 19 in order, and the tables after it.
+// A step: its checks in order, and the tables after it.
 use crate::fresh::not_fresh;
 use crate::uses::Above;
 use crate::uses::open_above;
@@ -67,7 +67,7 @@ fn mark_cited(names: Names, argument: u16, cited: &mut [bool; 1024], discharged:
     }
 }
 
-// Checks 17 to 19 of step `k`, over what its premises leave open, in any state in which that is so.
+// How step `k` uses what it rests on: check 17, whether it fits, check 19, over what its premises leave open, in any state in which that is so.
 fn check_uses(
     file: &[u8],
     book: &[u8],
@@ -100,7 +100,7 @@ fn check_uses(
     }
 }
 
-// What a step comes to: the first of checks 12 to 19 that fails, and the labels that its premises leave open together, none where one of 12 to 16 fails.
+// What a step comes to: the first of its checks that fails, and the labels that its premises leave open together, none where one of 12 to 16 fails.
 pub struct Judged {
     pub fault: Failure,
     pub above: OpenSet,
@@ -116,7 +116,7 @@ fn refused(number: u16, place: u16) -> Judged
     }
 }
 
-// Checks 12 to 19 of step `k`. Its premises are marked as used, up to the first that check 13 refuses.
+// The checks of step `k`. Its premises are marked as used, up to the first that check 13 refuses.
 fn check_step(
     file: &[u8],
     book: &[u8],
@@ -169,7 +169,7 @@ fn check_step(
     }
 }
 
-// Step `k`: the first of checks 12 to 19 that fails, and the tables as they are after it.
+// Step `k`: the first of its checks that fails, and the tables as they are after it.
 pub fn take_step(
     file: &[u8],
     book: &[u8],

@@ -1,4 +1,4 @@
--- `check_step` meets its contract: the branches are checks 12 to 19, in order. Assumes nothing.
+-- `check_step` meets its contract: the branches are its checks, in order. Assumes nothing.
 use borrow.Author.Needs.{needs}
 use mathlib.Core.Path.{_≡_, refl, sym, _∙_}
 use mathlib.Core.Bool.{false}

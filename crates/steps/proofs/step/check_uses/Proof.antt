@@ -1,4 +1,4 @@
--- `check_uses` meets its contract: the branches are checks 17, 18 and 19, in order. Assumes nothing.
+-- `check_uses` meets its contract: the branches are check 17, the fit and check 19, in order. Assumes nothing.
 use borrow.Author.Needs.{needs}
 use mathlib.Core.Path.{_≡_, refl, sym, ap, _∙_}
 use native.Mathlib.Omega.{arith}
@@ -37,7 +37,7 @@ twice c s w =
     ∙ (λ i. twiceUsed (caseOf (start c .args .file .now)) (pre .1 .1 .0 i) (pre .1 .0 .1 .argument i) (marks (start c .args .discharged .now)) (labelsOf (start c .args .above .labels .bits)) (start c .args .above .shared))
     ∙ twice-is (caseOf (start c .args .file .now)) (start c .args .k) s _ _ _ (w .spent) (w .above)
 
--- Check 18 holds.
+-- The step fits.
 fits : (c : tie.After-enum-told) → AllHold (fitChecks (caseOf (start (c .before .before .before .before) .args .file .now)) (start (c .before .before .before .before) .args .k))
 unfolding failureMeant
 fits c = all-hold (fitChecks _ _) (sym (c .before .before .check-fit .ensures) ∙ ap failureMeant (c .enum-told .given .1))

@@ -1,6 +1,6 @@
 -- `check_fit` meets its contract: the rules by their numbers. Assumes nothing.
 use borrow.Author.Needs.{needs}
-use mathlib.Core.Path.{refl}
+use mathlib.Core.Path.{refl, _∙_}
 use mathlib.Core.Logic.{inl, inr}
 use native.Mathlib.Omega.{arith}
 use Rattle.definition.specs.17-Case.{caseOf}
@@ -8,9 +8,9 @@ use Rattle.definition.specs.21-Rules.{rule, rules, ruleAt}
 use Rattle.case_file.specs.LentCase.{Numbered}
 use Rattle.case_parts.specs.ShapedSteps.{CitedEntry}
 use Rattle.rules.proofs.RuleNumbers.{label-there, condition-there, row-there, names-supposed, names-condition, names-row, premised}
-use Rattle.rules.proofs.ShapedStepLaws.{rule-number, own-numbered, premises-there, cites, refused, refused-none, refused-all, place-few}
-use Rattle.rules.proofs.sixteen.check_fit.Statement.{statement}
-use Rattle.rules.proofs.sixteen.check_fit.Tie as tie
+use Rattle.rules.proofs.ShapedStepLaws.{rule-number, own-numbered, premises-there, cites, fits-is, refused-none, place-few}
+use Rattle.rules.proofs.fit.check_fit.Statement.{statement}
+use Rattle.rules.proofs.fit.check_fit.Tie as tie
 
 -- The step's formula is of the book, and what it cites is there.
 own : (st : tie.Start) → Numbered (st .args .book .now) (st .args .step .formula)
@@ -49,8 +49,12 @@ owner-requires c κs =
     let lent = start .pre .0 .lent in
     ((lent, premises-there lent (start .pre .1 .0) (start .pre .1 .1)), own start)
 
-refusal-requires-3 : tie.Need-refusal-requires-3
-refusal-requires-3 c κs = search needs
+explained-requires : tie.Need-explained-requires
+unfolding rule rules ruleAt
+explained-requires c κs =
+    let start = c .before .before .before .before in
+    let pre = start .pre in
+    (pre .0 .lent, (pre .1, c .owner .ensures _ ∙ (rw (c .before .match .keys4) at (fits-is (pre .0 .lent) (pre .1 .0) (pre .1 .1)))))
 
 from-premises-requires : tie.Need-from-premises-requires
 from-premises-requires c κs =
@@ -60,8 +64,8 @@ from-premises-requires c κs =
     let m = c .match .rest in
     (lent, (at, premised (start .args .step .rule) (rule-number lent (at .0) (at .1)) (m .0 .0 .0 .1) (m .0 .0 .1) (m .0 .1) (m .1)))
 
-refusal-requires-4 : tie.Need-refusal-requires-4
-refusal-requires-4 c κs = search needs
+explained-requires-2 : tie.Need-explained-requires-2
+explained-requires-2 c κs = search needs
 
 returns : tie.Need-returns
 unfolding rule rules ruleAt
@@ -82,15 +86,10 @@ returns-3 c =
     refused-none (pre .0 .lent) (pre .1 .0) (pre .1 .1) 2 (c .before .match .keys3) (inr (inr refl)) _ refl (c .seen-row .ensures)
 
 returns-4 : tie.Need-returns-4
-unfolding rule rules ruleAt
-returns-4 c =
-    let pre = c .before .before .before .before .before .pre in
-    refused-all (pre .0 .lent) (pre .1 .0) (pre .1 .1) 5 (c .before .before .match .keys4) (c .before .owner .result) (c .before .owner .ensures _) (c .refusal3 .ensures)
+returns-4 c = search needs
 
 returns-5 : tie.Need-returns-5
-returns-5 c =
-    let pre = c .before .before .before .before .before .pre in
-    refused (pre .0 .lent) (pre .1 .0) (pre .1 .1) (c .before .from-premises .result) (c .before .from-premises .ensures) (c .refusal4 .ensures)
+returns-5 c = search needs
 
 pub check-fit-spec : {M : Type 1} → statement M
 check-fit-spec =
@@ -103,9 +102,9 @@ check-fit-spec =
     refusal-requires-2
     seen-row-requires
     owner-requires
-    refusal-requires-3
+    explained-requires
     from-premises-requires
-    refusal-requires-4
+    explained-requires-2
     returns
     returns-2
     returns-3
