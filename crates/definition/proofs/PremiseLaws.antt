@@ -1,18 +1,17 @@
 -- What the tests of a step's premises say: they are earlier, unused and distinct, and share no each-use label. By induction on the premises.
 -- Assumes nothing.
-use Prim.Native.Nat.{ℕ, zero, suc, _+_, _<_}
+use Prim.Native.Nat.{ℕ, _<_}
 use mathlib.Core.Path.{_≡_, refl, sym, ap, _∙_}
 use mathlib.Core.Bool.{Bool, true, false, _&&_}
 use mathlib.Core.Logic.{inl, inr, ⊎-elim}
 use mathlib.Core.List.{List, [], _∷_}
 use native.Mathlib.Omega.{arith}
-use lib.ListN.{length}
 use lib.Dec.{eqb, ltb}
 use borrow.Author.Tests.{ltb-true, lt-ltb, eq-eqb, eqb-true, not-false}
 use Rattle.definition.proofs.RangeLaws.{any-false, any-none}
 use Rattle.definition.proofs.StateMarks.{update-same, update-other, joined-same}
 use Rattle.definition.proofs.Tests.{and-true, and-intro, or-false, not-both, never-true}
-use Rattle.definition.specs.02-Ranges.{any, listed, update}
+use Rattle.definition.specs.02-Ranges.{any, update}
 use Rattle.definition.specs.03-Lists.{Among}
 use Rattle.definition.specs.13-Formulas.{each-use}
 use Rattle.definition.specs.17-Case.{Case}
@@ -23,11 +22,6 @@ use Rattle.definition.specs.42-Account.{LabelsSplit}
 abbrev pub Distinct : List ℕ → Type 0
 Distinct [] = Unit {0}
 Distinct (p ∷ ps) = (Among p ps → ⊥) × Distinct ps
-
-pub listed-length : {A : Type 0} (f : ℕ → A) (left i : ℕ) → length (listed f left i) ≡ left
-unfolding listed
-listed-length f zero i = refl
-listed-length f (suc left) i = ap suc (listed-length f left (i + 1))
 
 pub record Usable (used : ℕ → Bool) (k : ℕ) (ps : List ℕ) : Type 0 where
   pub earlier : (p : ℕ) → Among p ps → p < k

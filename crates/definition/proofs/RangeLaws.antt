@@ -1,15 +1,15 @@
 -- What the walks over the numbers from i to i + left - 1 find, in terms of the test p at each of them. Assumes nothing.
 use Prim.Native.Nat.{ℕ, zero, suc, _+_, _≤_, _<_}
-use mathlib.Core.Path.{_≡_, refl, sym}
+use mathlib.Core.Path.{_≡_, refl, sym, ap}
 use mathlib.Core.Bool.{Bool, true, false, false≢true}
 use mathlib.Core.Logic.{_↔_, inl, inr, ⊎-elim}
 use native.Mathlib.Nat.{eq-or-lt-of-le}
 use native.Mathlib.Omega.{arith}
-use lib.ListN.{length}
+use lib.ListN.{length, getD}
 use lib.Dec.{ltb}
 use borrow.Author.Tests.{lt-ltb, le-ltb}
 use Rattle.definition.proofs.Tests.{and-true, and-intro, or-true, or-intro-left, or-intro-right, not-both, never-true}
-use Rattle.definition.specs.02-Ranges.{any, all, lowest, members}
+use Rattle.definition.specs.02-Ranges.{any, all, lowest, members, listed}
 use Rattle.definition.specs.03-Lists.{Among, Ascending}
 
 module _ (p : ℕ → Bool) where
@@ -154,3 +154,15 @@ pub each-at : (P : ℕ → Type 0) (left i : ℕ) → Each P left i → (j : ℕ
 each-at P zero i h j from to = absurd (omega arith)
 each-at P (suc left) i h j from to =
     ⊎-elim (λ q. rw (← q) (h .0)) (λ q. each-at P left (i + 1) (h .1) j (omega arith) (omega arith)) (eq-or-lt-of-le from)
+
+-- A list by numbers: how many entries it has, and which.
+pub listed-length : {A : Type 0} (f : ℕ → A) (n i : ℕ) → length (listed f n i) ≡ n
+unfolding listed
+listed-length f zero i = refl
+listed-length f (suc n) i = ap suc (listed-length f n (i + 1))
+
+pub listed-at : {A : Type 0} (f : ℕ → A) (d : A) (n i p : ℕ) → p < n → getD (listed f n i) p d ≡ f (i + p)
+unfolding listed
+listed-at f d zero i p h = absurd (omega arith)
+listed-at f d (suc n) i zero h = let e : i + 0 ≡ i = omega arith in rw e
+listed-at f d (suc n) i (suc p) h = let e : i + suc p ≡ i + 1 + p = omega arith in rw e (listed-at f d n (i + 1) p (omega arith))

@@ -9,6 +9,7 @@ use lib.ListN.{length, getD, take, drop, length-append, length-drop, take-append
 use lib.Seq.{take-append-seam, drop-append-add, drop-length, drop-drop, getD-drop, ext-getD}
 use lib.Dec.{eqb, ltb}
 use borrow.Author.Tests.{eq-eqb, ne-eqb, eqb-true, le-ltb, ltb-true, ltb-false}
+use Rattle.definition.proofs.RangeLaws.{listed-length, listed-at}
 use Rattle.definition.proofs.PartLaws.{header-inside, part-due, part-whole, part-few, part-length, held-count, all-covered, rows-observed, steps-premised}
 use Rattle.definition.specs.01-Words.{word, words}
 use Rattle.definition.specs.02-Ranges.{listed, update}
@@ -90,17 +91,6 @@ unfolding before joinAll
 joined-part [] p h = absurd (omega arith)
 joined-part (x ∷ xs) zero h = take-append-seam x (joinAll xs)
 joined-part (x ∷ xs) (suc p) h = rw (drop-append-add x (joinAll xs) (before xs p)) (joined-part xs p (omega arith))
-
-listed-length : {A : Type 0} (f : ℕ → A) (n i : ℕ) → length (listed f n i) ≡ n
-unfolding listed
-listed-length f zero i = refl
-listed-length f (suc n) i = ap suc (listed-length f n (i + 1))
-
-listed-at : {A : Type 0} (f : ℕ → A) (d : A) (n i p : ℕ) → p < n → getD (listed f n i) p d ≡ f (i + p)
-unfolding listed
-listed-at f d zero i p h = absurd (omega arith)
-listed-at f d (suc n) i zero h = let e : i + 0 ≡ i = omega arith in rw e
-listed-at f d (suc n) i (suc p) h = let e : i + suc p ≡ i + 1 + p = omega arith in rw e (listed-at f d n (i + 1) p (omega arith))
 
 -- The parts are whole and few, which is what checks 1 and 2 ask of a file put together.
 pub record Sized (c : Contents) : Type 0 where

@@ -21,7 +21,8 @@ use Rattle.definition.proofs.Spans as laws
 use Rattle.definition.specs.22-Steps.{State, opensIn, usedIn, Labels, ruleOf, premisesOf, mustBeAbsent, misshapen, isAnObligation, joined, isEachUse, isAdding, share, usedTwice, premiseFormulas, misfit, notFresh, citationChecks, fitChecks, shapeChecks, useChecks, stepChecks}
 use Rattle.definition.specs.42-Account.{SpansAdjoin}
 use Rattle.definition.proofs.States.{Fine}
-use Rattle.definition.proofs.PremiseLaws.{Usable, premises-usable, usable-premises, listed-length}
+use Rattle.definition.proofs.PremiseLaws.{Usable, premises-usable, usable-premises}
+use Rattle.definition.proofs.RangeLaws.{listed-length}
 use Rattle.definition.proofs.RuleLaws.{Tests}
 use Rattle.definition.proofs.MisfitLaws.{fit-checks}
 

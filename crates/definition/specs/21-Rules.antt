@@ -1,11 +1,12 @@
 -- The sixteen rules, and what an action owes. A rule's test is of a step's own formula f, its argument a and the formulas ps of its premises, in the order given.
 -- Where a rule has an F, a G or a B that stands for any formula or agent, it can only be a certain part of a premise or of f: that part is named, and then whole formulas are compared.
-use Prim.Native.Nat.{ℕ, _+_}
+use Prim.Native.Nat.{ℕ}
 use mathlib.Core.Bool.{Bool, true, false, cond, not, _&&_, _||_}
 use mathlib.Core.Option.{Option, none, some}
 use mathlib.Core.List.{List, [], _∷_, map}
-use lib.ListN.{getD}
+use lib.ListN.{length, getD}
 use lib.Dec.{eqb}
+use Rattle.definition.specs.02-Ranges.{any}
 use Rattle.definition.specs.12-Terms.{classOf, isParameter, isInstance}
 use Rattle.definition.specs.13-Formulas.{Formula, predicate, owns, says, and, for-all, implies, after, communicates, creates, user-action, no-formula, same, kindOf, data-variable, has, put, dataOf, firstPart, secondPart, source, target, sortOf}
 use Rattle.definition.specs.15-Records.{isDuty}
@@ -194,10 +195,9 @@ inTurn qs i = getD qs i anything
 unfoldable pub ofEvery : Asked → Asks
 ofEvery q i = q
 
--- Has one of the premises, from premise i on, the fault?
-unfoldable pub anyFaulty : (Asked → Formula → Bool) → Asks → (i : ℕ) → List Formula → Bool
-anyFaulty fault asks i [] = false
-anyFaulty fault asks i (p ∷ ps) = fault (asks i) p || anyFaulty fault asks (i + 1) ps
+-- Has one of the premises the fault?
+unfoldable pub anyFaulty : (Asked → Formula → Bool) → Asks → List Formula → Bool
+anyFaulty fault asks ps = any (λ i. fault (asks i) (getD ps i no-formula)) (length ps) 0
 
 -- The argument is one that the rule admits, and yet it "does not turn into the instance" the body: of rule 14's own formula into its premise, of rule 15's premise into its formula.
 -- The other rules have no instance.

@@ -162,11 +162,11 @@ premiseFormulas c k = map (λ p. c .step p .formula) (premisesOf c k)
 
 -- Document 02, request 1. Check 24: "wrong premise kind".
 unfoldable pub wrongKind : Case → ℕ → Bool
-wrongKind c k = anyFaulty isOtherKind (ruleOf c k .asks) 0 (premiseFormulas c k)
+wrongKind c k = anyFaulty isOtherKind (ruleOf c k .asks) (premiseFormulas c k)
 
 -- Check 25: "wrong party".
 unfoldable pub wrongParty : Case → ℕ → Bool
-wrongParty c k = anyFaulty (isOtherParty (c .agent)) (ruleOf c k .asks) 0 (premiseFormulas c k)
+wrongParty c k = anyFaulty (isOtherParty (c .agent)) (ruleOf c k .asks) (premiseFormulas c k)
 
 -- Check 26: "wrong instance".
 unfoldable pub wrongInstance : Case → ℕ → Bool

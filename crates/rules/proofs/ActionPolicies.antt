@@ -1,6 +1,6 @@
 -- What an action gives rise to, by the kind of its row: the conclusion that the agent may draw from it, and what it owes. Assumes nothing.
 use Prim.Native.Nat.{ℕ}
-use mathlib.Core.Path.{_≡_, refl, sym, ap, _∙_}
+use mathlib.Core.Path.{_≡_, refl, sym, _∙_}
 use mathlib.Core.Bool.{cond}
 use mathlib.Core.Option.{Option, none, some}
 use mathlib.Core.List.{List}
@@ -10,7 +10,7 @@ use Rattle.definition.specs.13-Formulas.{Formula, kindOf, predicate, owns, says
 use Rattle.definition.specs.14-Book.{Row, rowAt, treeIn, treeOf, book as trees}
 use Rattle.formula_rows.specs.Meanings.{rowMeant}
 use Rattle.formula_rows.specs.declared.rows.Row as rows
-use Rattle.formula_book.proofs.Laws.{tree-row, communicates-kind, creates-kind, user-action-kind}
+use Rattle.formula_book.proofs.Laws.{communicates-kind, creates-kind, user-action-kind}
 use Rattle.definition.specs.11-Layout.{agentOf, actionOf}
 use Rattle.definition.specs.17-Case.{caseOf}
 use Rattle.case_file.proofs.Laws.{audit-named}
@@ -22,7 +22,7 @@ use Rattle.rules.specs.Policies.{policyMeant, Tells, PolicyIs}
 use Rattle.rules.specs.declared.policies.Policy.{Policy}
 use Rattle.rules.specs.declared.policies.Policy.the-variants.{Nothing}
 use Rattle.rules.proofs.CitedFormulas.{named}
-use Rattle.rules.proofs.ComparedRows.{good-row, lower, read-shape, predicate-tells, owns-tells, says-tells}
+use Rattle.rules.proofs.ComparedRows.{lower, read-shape, kind-is, predicate-tells, owns-tells, says-tells}
 
 -- The policy is the one of the row, if `who` is the agent: what `of_agent` promises.
 abbrev pub OfAgent : Policy → (agent who : ℕ) → rows.Row → Type 0
@@ -64,8 +64,7 @@ module _ {b : List ℕ} {k : ℕ} (agent : ℕ) (r : rows.Row) (n : Numbered b k
 
   -- The kind of the row is that of the tree.
   kind : (m : ℕ) → (r .kind ≡ m → ⊥) → kindOf (treeIn (trees b) k) ≡ m → ⊥
-  unfolding rowMeant
-  kind m other e = other (ap (λ (q : Row). q .kind) is ∙ tree-row b k (good-row n) .kind ∙ e)
+  kind m other e = other (kind-is r n is ∙ e)
 
   pub concludes-nothing : (r .kind ≡ 8 → ⊥) → (r .kind ≡ 9 → ⊥) → PolicyIs b Nothing (conclusion agent (treeIn (trees b) k))
   unfolding policyMeant

@@ -6,12 +6,12 @@ use native.Mathlib.Omega.{arith}
 use lib.ListN.{length}
 use lib.Dec.{eqb}
 use Rattle.definition.specs.01-Words.{absent}
-use Rattle.definition.specs.13-Formulas.{same}
+use Rattle.definition.specs.13-Formulas.{kindOf, same}
 use Rattle.definition.specs.14-Book.{Row, rowAt, bookRows, treeIn, treeOf, book as trees, sameRow}
 use Rattle.formula_book.specs.GoodRows.{GoodRow}
 use Rattle.formula_rows.specs.Meanings.{rowMeant}
 use Rattle.formula_rows.specs.declared.rows.Row as rows
-use Rattle.formula_book.proofs.Laws.{Proper, admitted-row, good-inside, row-is, row-same, number-same, predicate-proper, owns-proper, says-proper, and-proper, implies-proper, each-use-proper, once-proper}
+use Rattle.formula_book.proofs.Laws.{Proper, admitted-row, good-inside, row-is, tree-row, row-same, number-same, predicate-proper, owns-proper, says-proper, and-proper, implies-proper, each-use-proper, once-proper}
 use Rattle.definition.proofs.Trees.{Shape}
 use Rattle.case_file.specs.LentCase.{Numbered}
 use Rattle.rules.specs.Policies.{Tells}
@@ -32,6 +32,11 @@ read-shape {b} {k} r n is = rw is (row-is b k (good-row n))
 
 pub same-number : {b : List ℕ} {f g : ℕ} → Numbered b f → Numbered b g → same (treeIn (trees b) f) (treeIn (trees b) g) ≡ eqb f g
 same-number {b} {f} {g} n m = number-same b (n .book) f g (n .below) (m .below)
+
+-- Its kind is that of the formula.
+pub kind-is : {b : List ℕ} {k : ℕ} (r : rows.Row) → Numbered b k → rowMeant r ≡ rowAt b k → r .kind ≡ kindOf (treeIn (trees b) k)
+unfolding rowMeant
+kind-is {b} {k} r n is = ap (λ (q : Row). q .kind) is ∙ tree-row b k (good-row n) .kind
 
 -- A proper row tells its formula.
 pub tells : {b : List ℕ} (r : Row) → Proper (trees b) (bookRows b) r → Tells b r

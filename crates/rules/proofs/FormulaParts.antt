@@ -4,7 +4,6 @@ use mathlib.Core.Path.{_≡_, sym, ap, _∙_}
 use mathlib.Core.Bool.{Bool, true, false, _&&_, and-false}
 use mathlib.Core.List.{List, [], _∷_}
 use Rattle.definition.proofs.Tests.{and-true, both-first, both-second}
-use Rattle.definition.proofs.OneNumber.{fields}
 use Rattle.definition.specs.12-Terms.{Sort, classOf, isParameter, isInstance}
 use Rattle.definition.specs.13-Formulas.{Formula, kindOf, says, and, for-all, implies, same, put, isPolicy, firstPart, secondPart, source, target, sortOf}
 use Rattle.definition.specs.14-Book.{rowAt, sortOfCode, treeIn, book as trees}
@@ -17,7 +16,7 @@ use Rattle.definition.specs.17-Case.{Case, caseOf}
 use Rattle.definition.specs.21-Rules.{first, second, say, refine, andLeft, andRight, admitsParameter, admitsTerm, bodyWith}
 use Rattle.case_file.specs.LentCase.{Numbered}
 use Rattle.rules.specs.Misfits.{RowTells}
-use Rattle.rules.proofs.ComparedRows.{lower, read-shape}
+use Rattle.rules.proofs.ComparedRows.{lower, read-shape, kind-is}
 
 -- Formula k is made of the two formulas that its row r names, which are of the book too.
 pub record TwoParts (b : List ℕ) (k : ℕ) (r : rows.Row) (make : Formula → Formula → Formula) : Type 0 where
@@ -188,10 +187,9 @@ module _ (a : ℕ) (g : Formula) where
 pub told : {b : List ℕ} {k : ℕ} (r : rows.Row) → Numbered b k → rowMeant r ≡ rowAt b k → RowTells r (treeIn (trees b) k)
 unfolding rowMeant source target
 told r n is =
-    let shape = read-shape r n is in
     record {
-      kind = fields shape .kind;
-      owner = λ e. sym (ap source (owns-kind shape e));
+      kind = kind-is r n is;
+      owner = λ e. sym (ap source (owns-kind (read-shape r n is) e));
       source = λ e. sym (ap source (says-tree r n is e));
       target = λ e. sym (ap target (says-tree r n is e));
     }

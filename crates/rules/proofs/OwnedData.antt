@@ -21,7 +21,7 @@ use Rattle.definition.specs.17-Case.{Case, caseOf}
 use Rattle.definition.specs.21-Rules.{sameAll, owner}
 use Rattle.case_file.specs.LentCase.{Lent, Numbered}
 use Rattle.rules.specs.PremiseFormulas.{PremiseThere, premiseTrees}
-use Rattle.definition.proofs.PremiseLaws.{listed-length}
+use Rattle.definition.proofs.RangeLaws.{listed-length}
 use Rattle.definition.proofs.RuleLaws.{same-all}
 use Rattle.case_file.proofs.LentCaseLaws.{parted, premises-few}
 use Rattle.rules.proofs.CitedFormulas.{named}

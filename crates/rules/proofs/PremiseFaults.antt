@@ -1,12 +1,16 @@
 -- Checks 24 and 25: the premises looked at one by one, each by its row. Assumes nothing.
-use Prim.Native.Nat.{ℕ, suc, _+_, _-_, _<_}
+use Prim.Native.Nat.{ℕ, _+_, _≤_, _<_}
 use mathlib.Core.Path.{_≡_, sym, ap, _∙_}
 use mathlib.Core.Bool.{Bool, true, false, _||_}
+use mathlib.Core.Logic.{⊎-elim}
+use native.Mathlib.Nat.{eq-or-lt-of-le}
 use native.Mathlib.Omega.{arith}
+use lib.ListN.{getD}
 use lib.Dec.{eqb}
 use borrow.Author.Tests.{eqb-true, eq-eqb, ne-eqb}
+use Rattle.definition.proofs.RangeLaws.{any-some, any-none, listed-length, listed-at}
 use Rattle.definition.specs.02-Ranges.{listed}
-use Rattle.definition.specs.13-Formulas.{Formula, kindOf, source, target}
+use Rattle.definition.specs.13-Formulas.{Formula, no-formula, kindOf, source, target}
 use Rattle.definition.specs.21-Rules.{Asked, Asks, anyFaulty}
 use Rattle.formula_rows.specs.declared.rows.Row as rows
 use Rattle.rules.specs.Misfits.{RowTells}
@@ -34,33 +38,23 @@ module _ {k n : ℕ} (is : k ≡ n) where
   duty-second other = rw (ne-eqb n 6 (λ e. other (is ∙ e)), is)
 
 -- A walk over premises that ends at the first that has the fault; t are the formulas of the premise entries.
-module _ (fault : Asked → Formula → Bool) (asks : Asks) (t : ℕ → Formula) where
-  -- Premise i is the first of those that are left: it has the fault, or the others decide.
-  faulty-here : (left i at : ℕ) → fault (asks i) (t at) ≡ true → anyFaulty fault asks i (listed t (suc left) at) ≡ true
-  unfolding anyFaulty listed
-  faulty-here left i at e = rw e
+module _ (fault : Asked → Formula → Bool) (asks : Asks) (t : ℕ → Formula) (from : ℕ) where
+  -- The premises before i have no fault.
+  abbrev pub NoneBefore : ℕ → Type 0
+  NoneBefore i = (j : ℕ) → j < i → fault (asks j) (t (from + j)) ≡ false
 
-  faulty-later : (left i at : ℕ) → fault (asks i) (t at) ≡ false → anyFaulty fault asks i (listed t (suc left) at) ≡ anyFaulty fault asks (i + 1) (listed t left (at + 1))
-  unfolding anyFaulty listed
-  faulty-later left i at e = rw e
+  pub none-more : {i : ℕ} → NoneBefore i → fault (asks i) (t (from + i)) ≡ false → NoneBefore (i + 1)
+  none-more {i} low here j lt = let le : j ≤ i = omega arith in ⊎-elim (λ e. rw e here) (low j) (eq-or-lt-of-le le)
 
-  -- The premises before i have no fault: what is left decides.
-  abbrev pub Undecided : (from len i : ℕ) → Type 0
-  Undecided from len i = (left : ℕ) → left + i ≡ len → anyFaulty fault asks 0 (listed t len from) ≡ anyFaulty fault asks i (listed t left (from + i))
+  module _ (len : ℕ) where
+    premise-at : (j : ℕ) → j < len → getD (listed t len from) j no-formula ≡ t (from + j)
+    premise-at j lt = listed-at t no-formula len from j lt
 
-  module _ (from len : ℕ) where
-    pub undecided-first : Undecided from len 0
-    undecided-first left e = let same : left ≡ len = omega arith in let here : from + 0 ≡ from = omega arith in rw (same, here)
+    pub one-faulty : (i : ℕ) → i < len → fault (asks i) (t (from + i)) ≡ true → true ≡ anyFaulty fault asks (listed t len from)
+    unfolding anyFaulty
+    one-faulty i lt e = sym (any-some _ _ 0 i (omega arith) (omega (arith, listed-length t len from)) (ap (fault (asks i)) (premise-at i lt) ∙ e))
 
-    module _ {i : ℕ} (u : Undecided from len i) where
-      pub undecided-next : fault (asks i) (t (from + i)) ≡ false → Undecided from len (i + 1)
-      undecided-next e left more =
-          let next : from + (i + 1) ≡ from + i + 1 = omega arith in
-          rw next (u (suc left) (omega arith) ∙ faulty-later left i (from + i) e)
-
-      pub decided-here : i < len → fault (asks i) (t (from + i)) ≡ true → true ≡ anyFaulty fault asks 0 (listed t len from)
-      decided-here lt e = sym (u (suc (len - i - 1)) (omega arith) ∙ faulty-here (len - i - 1) i (from + i) e)
-
-      pub decided-none : i ≡ len → false ≡ anyFaulty fault asks 0 (listed t len from)
-      unfolding anyFaulty listed
-      decided-none e = sym (u 0 (omega arith))
+    pub none-faulty : NoneBefore len → false ≡ anyFaulty fault asks (listed t len from)
+    unfolding anyFaulty
+    none-faulty low =
+        sym (any-none _ _ 0 (λ j above below. let lt : j < len = omega (arith, below, listed-length t len from) in ap (fault (asks j)) (premise-at j lt) ∙ low j lt))

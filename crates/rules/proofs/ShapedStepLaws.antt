@@ -8,7 +8,7 @@ use native.Mathlib.Omega.{arith}
 use lib.Dec.{eqb, ltb}
 use borrow.Author.Tests.{ltb-false, not-false}
 use Rattle.definition.specs.01-Words.{absent}
-use Rattle.definition.specs.02-Ranges.{listed}
+use Rattle.definition.specs.02-Ranges.{any, listed}
 use Rattle.definition.specs.04-Checks.{Checked, refuses, single, inOrder}
 use Rattle.definition.proofs.CheckLaws.{goes-on, stops, skip-before}
 use Rattle.definition.proofs.Tests.{and-true, or-false}
@@ -16,7 +16,7 @@ use Rattle.definition.specs.13-Formulas.{isPolicy, closed}
 use Rattle.definition.specs.14-Book.{treeIn, book as trees}
 use Rattle.definition.specs.11-Layout.{formula-part, step-part, premise-part, count, agentOf}
 use Rattle.definition.specs.15-Records.{formulas, stepRule, stepFormula, stepArgument, stepFrom, stepCount, premiseStep, badSpan}
-use Rattle.definition.specs.17-Case.{caseOf}
+use Rattle.definition.specs.17-Case.{Case, caseOf}
 use Rattle.case_file.proofs.Laws.{formula-named}
 use Rattle.definition.proofs.Spans.{span-holds}
 use Rattle.definition.specs.21-Rules.{first, admitsParameter, admitsTerm, isOtherKind, isOtherParty, anyFaulty, forAllIntro, forAllElim, otherPremise, otherFormula, noInstance, rule, rules, ruleAt}
@@ -153,11 +153,11 @@ module _ {s b : List ℕ} {k : ℕ} (lent : Lent s b) (st : ShapedStep s k) {t :
   by-none = without-premise least-premises most-premises
 
   -- The tests of 24, 25 and 26, on what was read.
-  pub kind-is : anyFaulty isOtherKind (ruleAt (t .rule) .asks) 0 (premiseTrees s (t .from) (t .len)) ≡ wrongKind (caseOf s) k
+  pub kind-is : anyFaulty isOtherKind (ruleAt (t .rule) .asks) (premiseTrees s (t .from) (t .len)) ≡ wrongKind (caseOf s) k
   unfolding wrongKind
   kind-is = rw (rule-is, premises-are)
 
-  pub party-is : {agent : ℕ} → agent ≡ agentOf s → anyFaulty (isOtherParty agent) (ruleAt (t .rule) .asks) 0 (premiseTrees s (t .from) (t .len)) ≡ wrongParty (caseOf s) k
+  pub party-is : {agent : ℕ} → agent ≡ agentOf s → anyFaulty (isOtherParty agent) (ruleAt (t .rule) .asks) (premiseTrees s (t .from) (t .len)) ≡ wrongParty (caseOf s) k
   unfolding wrongParty caseOf
   party-is agent = rw (agent, rule-is, premises-are)
 
@@ -177,7 +177,7 @@ module _ {s b : List ℕ} {k : ℕ} (lent : Lent s b) (st : ShapedStep s k) {t :
   pub refused-none :
       (r : ℕ) → t .rule ≡ r → OneOfThree r 0 1 2 → (q : Bool) {x : Checked (Unit {0})} → q ≡ ruleAt r .fits (caseOf s) (treeIn (trees b) (t .formula)) (t .argument) [] →
       x ≡ inOrder (single 18 k (not q) ∷ []) → x ≡ inOrder (fitChecks (caseOf s) k)
-  unfolding fitChecks premiseTrees listed anyFaulty
+  unfolding fitChecks premiseTrees listed any anyFaulty
   refused-none r e which q fits h =
       let len = by-none (rw e which) in
       let few = first-three which in
@@ -189,7 +189,7 @@ module _ {s b : List ℕ} {k : ℕ} (lent : Lent s b) (st : ShapedStep s k) {t :
       h ∙ ap (λ b. inOrder (single 18 k b ∷ [])) fault
       ∙ sym (skip-before (single 24 k _ ∷ single 25 k _ ∷ single 26 k _ ∷ []) (single 18 k _ ∷ []) (kind, (party, (inst, tt))))
 
-  -- A step that does not fit, and its number from the answers of the three tests.
+  -- A step of rule 14 or 15 that does not fit, though its argument is admitted: the instance is another.
   module _ (misfits : misfit (caseOf s) k ≡ true) where
     unfit : ruleAt (t .rule) .fits (caseOf s) (treeIn (trees b) (t .formula)) (t .argument) (premiseTrees s (t .from) (t .len)) ≡ false
     unfit = fits-is ∙ ap not misfits
@@ -206,24 +206,26 @@ module _ {s b : List ℕ} {k : ℕ} (lent : Lent s b) (st : ShapedStep s k) {t :
         let len : t .len ≡ 1 = by-one (inr (inr argued)) (λ two. omega arith) .1 in
         rw (named lent premise) (admitted-other _ _ (rw (e, len) at unfit) ∙ (rw (e, len) at instance-is))
 
-    pub is-24 : wrongKind (caseOf s) k ≡ true → refuses 24 k ≡ inOrder (fitChecks (caseOf s) k)
-    unfolding fitChecks
-    is-24 e = sym (stops _ _ 24 k (refl, refl, e))
-
-    module _ (kind : wrongKind (caseOf s) k ≡ false) where
-      pub is-25 : wrongParty (caseOf s) k ≡ true → refuses 25 k ≡ inOrder (fitChecks (caseOf s) k)
-      unfolding fitChecks
-      is-25 e = sym (goes-on _ _ kind ∙ stops _ _ 25 k (refl, refl, e))
-
-      module _ (party : wrongParty (caseOf s) k ≡ false) where
-        pub is-26 : wrongInstance (caseOf s) k ≡ true → refuses 26 k ≡ inOrder (fitChecks (caseOf s) k)
-        unfolding fitChecks
-        is-26 e = sym (goes-on _ _ kind ∙ goes-on _ _ party ∙ stops _ _ 26 k (refl, refl, e))
-
-        pub is-18 : wrongInstance (caseOf s) k ≡ false → refuses 18 k ≡ inOrder (fitChecks (caseOf s) k)
-        unfolding fitChecks
-        is-18 e = sym (goes-on _ _ kind ∙ goes-on _ _ party ∙ goes-on _ _ e ∙ stops _ _ 18 k (refl, refl, misfits))
-
   -- The step's number fits 16 bits.
   pub place-few : k < 2048
   place-few = omega (arith, st .inside, steps-few s (parted lent))
+
+-- The number of a step that does not fit, from the answers of the tests.
+module _ (c : Case) (k : ℕ) where
+  pub is-24 : wrongKind c k ≡ true → refuses 24 k ≡ inOrder (fitChecks c k)
+  unfolding fitChecks
+  is-24 e = sym (stops _ _ 24 k (refl, refl, e))
+
+  module _ (kind : wrongKind c k ≡ false) where
+    pub is-25 : wrongParty c k ≡ true → refuses 25 k ≡ inOrder (fitChecks c k)
+    unfolding fitChecks
+    is-25 e = sym (goes-on _ _ kind ∙ stops _ _ 25 k (refl, refl, e))
+
+    module _ (party : wrongParty c k ≡ false) where
+      pub is-26 : wrongInstance c k ≡ true → refuses 26 k ≡ inOrder (fitChecks c k)
+      unfolding fitChecks
+      is-26 e = sym (goes-on _ _ kind ∙ goes-on _ _ party ∙ stops _ _ 26 k (refl, refl, e))
+
+      pub is-18 : wrongInstance c k ≡ false → misfit c k ≡ true → refuses 18 k ≡ inOrder (fitChecks c k)
+      unfolding fitChecks
+      is-18 e misfits = sym (goes-on _ _ kind ∙ goes-on _ _ party ∙ goes-on _ _ e ∙ stops _ _ 18 k (refl, refl, misfits))

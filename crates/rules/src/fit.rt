@@ -142,7 +142,7 @@ fn premises_lack(
 ) -> bool
     requires { ⌜ Lent (now file) (now book) × PremisesThere (now file) from len ⌝ }
     requires { ⌜ rule < 16 ⌝ }
-    ensures { λ r. ⌜ r ≡ anyFaulty (regardMeant regard) (ruleAt rule .asks) 0 (premiseTrees (now (file .entry)) from len) ⌝ }
+    ensures { λ r. ⌜ r ≡ anyFaulty (regardMeant regard) (ruleAt rule .asks) (premiseTrees (now (file .entry)) from len) ⌝ }
 {
     let mut i: usize = 0;
     while i < len {

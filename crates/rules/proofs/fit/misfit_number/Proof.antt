@@ -14,7 +14,7 @@ cast-from c = search needs
 cast-len : tie.Need-cast-len
 cast-len c = search needs
 
--- The two tests, and that of the argument, are those of the definition.
+-- The tests of the premises are those of the definition.
 abbrev start : tie.After-premises-lack → tie.Start
 start p = p .before .before .before .before .before
 
@@ -30,7 +30,7 @@ premises-lack-requires : tie.Need-premises-lack-requires
 premises-lack-requires c κs = let pre = c .before .before .before .before .pre in ((pre .0, premises-there (pre .0) (pre .1 .0 .0) (pre .1 .0 .1)), rule-number (pre .0) (pre .1 .0 .0) (pre .1 .0 .1))
 
 returns : tie.Need-returns
-returns c = let p = c .before in let pre = start p .pre in is-24 (pre .0) (pre .1 .0 .0) (pre .1 .0 .1) (pre .1 .1) (sym (kind p) ∙ c .if1 .taken)
+returns c = is-24 _ _ (sym (kind (c .before)) ∙ c .if1 .taken)
 
 agent-of-requires : tie.Need-agent-of-requires
 agent-of-requires c κs = search needs
@@ -42,8 +42,7 @@ returns-2 : tie.Need-returns-2
 returns-2 c =
     let q = c .before in
     let p = q .before .before .before in
-    let pre = start p .pre in
-    is-25 (pre .0) (pre .1 .0 .0) (pre .1 .0 .1) (pre .1 .1) (sym (kind p) ∙ q .before .before .if1 .left) (sym (party q) ∙ c .if2 .taken)
+    is-25 _ _ (sym (kind p) ∙ q .before .before .if1 .left) (sym (party q) ∙ c .if2 .taken)
 
 wrong-instance-requires : tie.Need-wrong-instance-requires
 wrong-instance-requires c κs = search needs
@@ -52,15 +51,13 @@ returns-3 : tie.Need-returns-3
 returns-3 c =
     let q = c .before .before .before in
     let p = q .before .before .before in
-    let pre = start p .pre in
-    is-26 (pre .0) (pre .1 .0 .0) (pre .1 .0 .1) (pre .1 .1) (sym (kind p) ∙ q .before .before .if1 .left) (sym (party q) ∙ c .before .before .if2 .left) (sym (c .before .wrong-instance .ensures) ∙ c .if3 .taken)
+    is-26 _ _ (sym (kind p) ∙ q .before .before .if1 .left) (sym (party q) ∙ c .before .before .if2 .left) (sym (c .before .wrong-instance .ensures) ∙ c .if3 .taken)
 
 returns-4 : tie.Need-returns-4
 returns-4 c =
     let q = c .before .before .before in
     let p = q .before .before .before in
-    let pre = start p .pre in
-    is-18 (pre .0) (pre .1 .0 .0) (pre .1 .0 .1) (pre .1 .1) (sym (kind p) ∙ q .before .before .if1 .left) (sym (party q) ∙ c .before .before .if2 .left) (sym (c .before .wrong-instance .ensures) ∙ c .if3 .left)
+    is-18 _ _ (sym (kind p) ∙ q .before .before .if1 .left) (sym (party q) ∙ c .before .before .if2 .left) (sym (c .before .wrong-instance .ensures) ∙ c .if3 .left) (start p .pre .1 .1)
 
 pub misfit-number-spec : {M : Type 1} → statement M
 misfit-number-spec = tie.close (tie.spec cast-from cast-len premises-lack-requires returns agent-of-requires premises-lack-requires-2 returns-2 wrong-instance-requires returns-3 returns-4)

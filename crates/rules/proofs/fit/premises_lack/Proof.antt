@@ -1,8 +1,10 @@
--- `premises_lack` meets its contract. The loop's invariant: what is left of the premises decides. Assumes nothing.
-use Prim.Native.Nat.{_+_, _-_, _≤_}
+-- `premises_lack` meets its contract. The loop's invariant: the premises before `i` have no fault. Assumes nothing.
+use Prim.Native.Nat.{ℕ, _+_, _-_, _≤_}
 use borrow.Author.Needs.{needs}
 use mathlib.Core.Path.{_≡_, sym, ap₂, _∙_}
 use native.Mathlib.Omega.{arith}
+use mathlib.Core.List.{List}
+use Rattle.definition.specs.13-Formulas.{Formula}
 use Rattle.definition.specs.14-Book.{treeIn, book as trees}
 use Rattle.definition.specs.15-Records.{formulas, stepFormula, premiseStep}
 use Rattle.definition.specs.21-Rules.{ruleAt}
@@ -14,13 +16,17 @@ use Rattle.rules.proofs.CitedFormulas.{named}
 use Rattle.rules.proofs.ComparedRows.{readable}
 use Rattle.rules.proofs.FormulaParts.{told}
 use Rattle.rules.proofs.OwnedData.{premise-few}
-use Rattle.rules.proofs.PremiseFaults.{Undecided, undecided-first, undecided-next, decided-here, decided-none}
+use Rattle.rules.proofs.PremiseFaults.{NoneBefore, none-more, one-faulty, none-faulty}
 use Rattle.rules.proofs.fit.premises_lack.Statement.{statement}
 use Rattle.rules.proofs.fit.premises_lack.Tie as tie
 
+-- The formula of a premise entry.
+abbrev formulaAt : List ℕ → ℕ → Formula
+formulaAt file j = treeIn (formulas file) (stepFormula file (premiseStep file j))
+
 abbrev Inv-loop : tie.InvT-loop
 Inv-loop file book regard rule from len i₀ i =
-    (i ≤ len) × Undecided (regardMeant regard) (ruleAt rule .asks) (λ j. treeIn (formulas file) (stepFormula file (premiseStep file j))) from len i
+    (i ≤ len) × NoneBefore (regardMeant regard) (ruleAt rule .asks) (formulaAt file) from i
 
 abbrev μ-loop : tie.MeasureT-loop
 μ-loop file book regard rule from len i₀ i = len - i
@@ -37,7 +43,7 @@ of-book c = rw (c .premise-formula .ensures) (numbered (c .before .before .befor
 -- What is found of it is what the definition finds.
 looked :
     (c : tie.After-lacks Inv-loop μ-loop) → let i = c .before .before .before .before in let start = i .before .before .before .before in
-    c .lacks .result ≡ regardMeant (start .args .regard) (ruleAt (start .args .rule) .asks (i .before .loop .i)) (treeIn (formulas (start .args .file .now)) (stepFormula (start .args .file .now) (premiseStep (start .args .file .now) (start .args .from + i .before .loop .i))))
+    c .lacks .result ≡ regardMeant (start .args .regard) (ruleAt (start .args .rule) .asks (i .before .loop .i)) (formulaAt (start .args .file .now) (start .args .from + i .before .loop .i))
 looked c =
     let p = c .before .before .before in
     let row = c .before .before .row-at in
@@ -46,7 +52,7 @@ looked c =
     ∙ ap₂ (regardMeant (start .args .regard)) (c .before .asked-of .ensures) (named (start .pre .0 .0) (p .premise-formula .ensures))
 
 loop-holds : tie.Need-loop-holds Inv-loop μ-loop
-loop-holds c = (omega arith, undecided-first (regardMeant _) _ _ _ _)
+loop-holds c = (omega arith, λ j lt. absurd (omega arith))
 
 add-premise-formula : tie.Need-add-premise-formula Inv-loop μ-loop
 add-premise-formula c = omega (arith, premise-few (c .before .before .before .before .pre .0 .0) (there c))
@@ -70,7 +76,7 @@ returns : tie.Need-returns Inv-loop μ-loop
 unfolding premiseTrees
 returns c =
     let i = c .before .before .before .before .before in
-    decided-here _ _ _ _ _ (i .before .loop .inv .1) (i .loop-test .taken) (sym (looked (c .before)) ∙ c .if1 .taken)
+    one-faulty _ _ _ _ _ _ (i .loop-test .taken) (sym (looked (c .before)) ∙ c .if1 .taken)
 
 add-i : tie.Need-add-i Inv-loop μ-loop
 add-i c = omega (arith, c .before .before .before .before .before .loop-test .taken)
@@ -81,13 +87,15 @@ loop-less c = omega (arith, c .before .before .before .before .before .loop-test
 loop-again : tie.Need-loop-again Inv-loop μ-loop
 loop-again c =
     let i = c .before .before .before .before .before in
-    (omega (arith, i .loop-test .taken), undecided-next _ _ _ _ _ (i .before .loop .inv .1) (sym (looked (c .before)) ∙ c .if1 .left))
+    let start = i .before .before .before .before in
+    (omega (arith, i .loop-test .taken), none-more (regardMeant (start .args .regard)) (ruleAt (start .args .rule) .asks) (formulaAt (start .args .file .now)) (start .args .from) (i .before .loop .inv .1) (sym (looked (c .before)) ∙ c .if1 .left))
 
 returns-2 : tie.Need-returns-2 Inv-loop μ-loop
 unfolding premiseTrees
 returns-2 c =
     let l = c .before .loop in
-    decided-none _ _ _ _ _ (l .inv .1) (omega (arith, l .inv .0, c .loop-test .left))
+    let end : l .i ≡ c .before .before .before .before .args .len = omega (arith, l .inv .0, c .loop-test .left) in
+    none-faulty _ _ _ _ _ (rw end at (l .inv .1))
 
 pub premises-lack-spec : {M : Type 1} → statement M
 premises-lack-spec =
