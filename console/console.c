@@ -107,34 +107,43 @@ static unsigned rule_of(const uint8_t *file, size_t bytes, unsigned step)
     return number_at(file, bytes, steps + (size_t)STEP_BYTES * step);
 }
 
-/* What is wrong, by the rule of the step where the refusal tells it so. */
-static const char *meaning_of(unsigned number, unsigned rule,
-                              const struct refusal *refusal)
+static const struct refusal *refusal_of(unsigned number)
+{
+    const size_t known = sizeof refusals / sizeof refusals[0];
+
+    return &refusals[number < known ? number : JUSTIFICATION_NO_REFUSAL];
+}
+
+/*
+** What is wrong, by the rule of the step where the refusal tells it so. Only
+** then is the place taken for a step.
+*/
+static const char *meaning_of(unsigned number, unsigned place,
+                              const uint8_t *file, size_t bytes)
 {
     const size_t known = sizeof step_faults / sizeof step_faults[0];
     size_t entry;
 
     for (entry = 0; entry < known; entry++)
         if (step_faults[entry].number == number &&
-            step_faults[entry].rule == rule)
+            step_faults[entry].rule == rule_of(file, bytes, place))
             return step_faults[entry].meaning;
-    return refusal->meaning;
+    return refusal_of(number)->meaning;
 }
 
 static void print_refused(unsigned number, unsigned place, const uint8_t *file,
                           size_t bytes)
 {
-    unsigned known = sizeof refusals / sizeof refusals[0];
-    const struct refusal *refusal = &refusals[number < known ? number : 0];
-    int has_place = refusal->counts[0] != '\0';
-    unsigned rule = rule_of(file, bytes, place);
+    const char *counts = refusal_of(number)->counts;
+    int has_place = counts[0] != '\0';
 
     printf("refused %u %u\n", number, place);
     if (has_place)
-        printf("%s %u", refusal->counts, place);
+        printf("%s %u", counts, place);
     if (number == JUSTIFICATION_FAULTY_PART && place < 8)
         printf(" (%s)", parts[place]);
-    printf("%s%s\n", has_place ? ": " : "", meaning_of(number, rule, refusal));
+    printf("%s%s\n", has_place ? ": " : "",
+           meaning_of(number, place, file, bytes));
 }
 
 static void print_verdict(struct justification_verdict verdict,

@@ -66,9 +66,9 @@ struct justification_verdict {
 
 /*
 ** Refusals, in the order in which the checks are made: 1 to 11 by number, the
-** lowest place first; then step by step, each through 12 to 17, then 24, 25 and
-** 26, then 18 and 19; then 20 to 23. A number is a name and tells no order. One
-** exception: where a step cites a log row that is struck out, 16 is tried
+** lowest place first; then step by step, each through 12 to 17, then 27, 24, 25
+** and 26, then 18 and 19; then 20 to 23. A number is a name and tells no order.
+** One exception: where a step cites a log row that is struck out, 16 is tried
 ** before 14. All places are counted from 0.
 **
 ** The file is damaged or not a case file. Ask whoever sent it for a good one.
@@ -95,9 +95,10 @@ struct justification_verdict {
 ** 11  There is a justification, and nothing is owed. Most often the wrong
 **     agent or the wrong action is named. Place: 0.
 **
-** A step fails. Place: the step. All steps before it are in order. Send it back
-** to the agent with the step's number, and for 24 to 26 with the sentence that
-** JUSTIFICATION_STEP_FAULTS has for the step's rule: it names what is wrong.
+** A step fails. Place: the step, but for 27 a formula. All steps before it are
+** in order. Send it back to the agent with the place, and for 24 to 26 with the
+** sentence that JUSTIFICATION_STEP_FAULTS has for the step's rule: it names what
+** is wrong.
 **
 ** 12  The step is not well made: no such rule, no closed policy, premises not
 **     where they are due or not as many as the rule takes, or an argument where
@@ -110,6 +111,12 @@ struct justification_verdict {
 ** 16  The agent is not among the observers of the log row. The agent cannot
 **     rest on it, whatever it holds.
 ** 17  A duty owed at each use is used twice. A second such duty is needed.
+** 27  The formula of an owner step (rule 5) has a data variable in it, one that
+**     a "for all" binds. An owner grants data by name; rule 4 can lead on to a
+**     formula that the grant implies. Place: not the step, but a formula's row:
+**     of the step's formula and all that it is made of, actions too, the lowest
+**     that itself holds a data variable. The step is the first one by rule 5
+**     whose formula has this row in it.
 ** 24  A premise is not of the kind that the rule takes, say, no conjunction for
 **     a rule that takes one apart. Most often the wrong step is named as
 **     premise, two are in the wrong order, or the wrong rule is named.
@@ -119,7 +126,7 @@ struct justification_verdict {
 **     the argument put in is not what stands there. Most often the argument
 **     names another object than the formula does.
 ** 18  The rule does not give the step's formula from its premises and its
-**     argument, and the fault is none of the three above. So also where a log
+**     argument, and the fault is none of the four above. So also where a log
 **     row tells this agent nothing; where the step's own formula is by another
 **     than the agent, or to another than its premise (rules 4 and 5), or is no
 **     "for all" (rule 14); where the data owned are not just those of the
@@ -175,6 +182,9 @@ struct justification_verdict {
     REFUSAL(16, NOT_SEEN, "Step",                                              \
             "the agent is not among the observers of the log row.")            \
     REFUSAL(17, USED_TWICE, "Step", "a duty owed at each use is used twice.")  \
+    REFUSAL(27, DATA_VARIABLE, "Formula",                                      \
+            "it holds a data variable, and stands in the formula of an "       \
+            "owner step (rule 5), which may hold none.")                       \
     REFUSAL(24, WRONG_PREMISE_KIND, "Step",                                    \
             "a premise is not of the kind that the rule takes.")               \
     REFUSAL(25, WRONG_PARTY, "Step",                                           \
@@ -194,8 +204,9 @@ struct justification_verdict {
 ** Refusals that say more by the rule of the step, as a list, to be used with a
 ** macro of three parameters: number, rule, and what is wrong in words, which
 ** stand in place of the general ones above. No other rule is refused by these
-** numbers. The rule of step k is the 16-bit number, low byte first, at byte
-** s + 10 * k of the file, and s is the one at byte 28.
+** numbers. The place of each is the step, so 27 is not among them. The rule of
+** step k is the 16-bit number, low byte first, at byte s + 10 * k of the file,
+** and s is the one at byte 28.
 */
 #define JUSTIFICATION_STEP_FAULTS(STEP_FAULT)                                  \
     STEP_FAULT(24, 3,                                                          \

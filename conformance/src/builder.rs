@@ -240,6 +240,19 @@ impl CaseFile {
         self.step(rule, formula, argument, &supposed)
     }
 
+    /// Every number outside the book that names a formula.
+    pub fn formula_numbers(&mut self) -> impl Iterator<Item = &mut u16> {
+        let rows = self.rows.iter_mut().map(|row| &mut row.action);
+        let marked = self.obligations.iter_mut().chain(&mut self.labels).map(|entry| &mut entry.1);
+        let steps = self.steps.iter_mut().map(|step| &mut step.formula);
+        [&mut self.action]
+            .into_iter()
+            .chain(rows)
+            .chain(&mut self.conditions)
+            .chain(marked)
+            .chain(steps)
+    }
+
     /// The case with a change made by hand.
     pub fn change(mut self, change: impl FnOnce(&mut CaseFile)) -> CaseFile {
         change(&mut self);

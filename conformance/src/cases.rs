@@ -1,5 +1,5 @@
 //! Document 01's examples: the rows of its table, and the desk cases; and examples of the numbers
-//! that change request 1 of document 02 brings.
+//! that change requests 1 and 2 of document 02 bring.
 
 use std::fs;
 use std::path::Path;
@@ -19,6 +19,7 @@ pub fn examples() -> Vec<Vector> {
     all.extend(end_rows());
     all.extend(desk_cases());
     all.extend(misfits_at_the_desk());
+    all.extend(data_variables_at_the_desk());
     all
 }
 
@@ -119,14 +120,35 @@ fn misfits_at_the_desk() -> Vec<Vector> {
     ]
 }
 
+/// 27 as the desk meets it: its place is a formula. A "for all" that binds nothing does no harm.
+fn data_variables_at_the_desk() -> Vec<Vector> {
+    let told_at = |row: &str, name: &str, case: CaseFile| {
+        let place = case.number(row);
+        refused(name, case, 27, place)
+    };
+    let of_none = swap_for_any().change(|case| case.formulas[2].fields[2] = ABSENT);
+    vec![
+        told_at("swap for x", "27: Grant, a swap for any modem", swap_for_any()),
+        told_at("x open", "27: Grant, a swap for any modem told of", swap_and_tell()),
+        passed("Grant, for all data, of none of them", of_none, &[], &[0]),
+    ]
+}
+
 /// Agent 0 created data 0 and grants agent 1 its use.
 pub fn grant() -> CaseFile {
-    CaseFile::new(0)
-        .formula("0 creates", creates(0, data(0)))
-        .formula("0 owns", owns(0, data(0)))
-        .formula("use", predicate(7, &[1, data(0)]))
-        .formula("0 says", says(0, "use", 1))
-        .formula("0 communicates", communicates(0, "use", 1))
+    granted(created().formula("use", predicate(7, &[1, data(0)])), "use")
+}
+
+/// What agent 0 created, and owns.
+fn created() -> CaseFile {
+    CaseFile::new(0).formula("0 creates", creates(0, data(0))).formula("0 owns", owns(0, data(0)))
+}
+
+/// Agent 0 grants agent 1 this policy, as the owner of what it created.
+fn granted(created: CaseFile, policy: &'static str) -> CaseFile {
+    created
+        .formula("0 says", says(0, policy, 1))
+        .formula("0 communicates", communicates(0, policy, 1))
         .audits("0 communicates")
         .row("0 creates", &[0])
         .step(SEEN, "0 owns", 0, &[])
@@ -203,6 +225,30 @@ fn any_modem() -> CaseFile {
         .step(INSTANCE, "use if open", data(0), &[1])
         .step(CONDITION, "open", 0, &[])
         .step(IMPLIED, "use", ABSENT, &[2, 3])
+}
+
+/// Agent 0 created data 0 and lets agent 1 swap it for any other.
+fn swap_for_any() -> CaseFile {
+    let case = created()
+        .formula("swap for x", predicate(10, &[1, data(0), data_variable(0)]))
+        .formula("swap for any", for_all_data("swap for x"));
+    granted(case, "swap for any")
+}
+
+/// The same, with its use, and agent 1 may keep any other of which it tells agent 0, each time. The
+/// lowest row over x stands inside the action; a walk from the left meets another one first.
+fn swap_and_tell() -> CaseFile {
+    let case = created()
+        .formula("use", predicate(7, &[1, data(0)]))
+        .formula("x open", predicate(9, &[data_variable(0)]))
+        .formula("1 tells of x", communicates(1, "x open", 0))
+        .formula("keep x", predicate(11, &[1, data_variable(0)]))
+        .formula("tell of x, then keep it", each_use("1 tells of x", "keep x"))
+        .formula("swap for x", predicate(10, &[1, data(0), data_variable(0)]))
+        .formula("swap and keep x", and("swap for x", "tell of x, then keep it"))
+        .formula("swap and keep any", for_all_data("swap and keep x"))
+        .formula("use and swap", and("use", "swap and keep any"));
+    granted(case, "use and swap")
 }
 
 /// Agent 1 uses data 0 under an each-use obligation, which it cites twice.

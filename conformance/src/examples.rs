@@ -12,7 +12,7 @@ use crate::vectors::Vector;
 
 /// Each desk case's file, and its name among the examples. Row 23 needs a short room, which no
 /// program lends: the tests have it.
-const DESK: [(&str, &str); 21] = [
+const DESK: [(&str, &str); 24] = [
     ("grant", "Grant"),
     ("grant-no-steps", "row 10: Grant, no steps, no premises"),
     ("grant-other-agent", "row 11: Grant, agent 1"),
@@ -34,6 +34,9 @@ const DESK: [(&str, &str); 21] = [
     ("any-modem", "Any modem"),
     ("any-modem-other-number", "26: Any modem, another modem's number"),
     ("any-modem-no-modem", "18: Any modem, the technician's number"),
+    ("grant-swap", "27: Grant, a swap for any modem"),
+    ("grant-swap-told", "27: Grant, a swap for any modem told of"),
+    ("grant-for-all-of-none", "Grant, for all data, of none of them"),
 ];
 
 pub fn all() -> Vec<Vector> {

@@ -62,6 +62,18 @@ pub fn sort_of(term: u16) -> u8 {
     }
 }
 
+/// The formulas that a row is made of.
+pub fn children(row: &FormulaRow) -> impl Iterator<Item = u16> {
+    let fields = row.fields.into_iter().zip(roles(row.kind));
+    fields.filter(|(_, role)| *role == Role::Child).map(|(child, _)| child)
+}
+
+/// Their numbers, open to change.
+pub fn children_mut(row: &mut FormulaRow) -> impl Iterator<Item = &mut u16> {
+    let fields = row.fields.iter_mut().zip(roles(row.kind));
+    fields.filter(|(_, role)| *role == Role::Child).map(|(child, _)| child)
+}
+
 #[derive(Default)]
 pub struct Book {
     pub rows: Vec<FormulaRow>,
@@ -77,8 +89,7 @@ impl Book {
         if let Some(number) = self.numbers.get(&row) {
             return Some(*number);
         }
-        let children = fields.iter().zip(roles(kind)).filter(|(_, role)| *role == Role::Child);
-        let nodes = 1 + children.map(|(child, _)| self.nodes[*child as usize]).sum::<usize>();
+        let nodes = 1 + children(&row).map(|child| self.nodes[child as usize]).sum::<usize>();
         let number = self.rows.len() as u16;
         if nodes > 64 || number == 1_024 {
             return None;

@@ -4,10 +4,12 @@
 //! A slip is a fault of reasoning in a case whose records are all in order.
 
 use std::collections::BTreeSet;
+use std::mem;
 
 use crate::builder::*;
 use crate::checker::{Term, ABSENT};
-use crate::interned::{is_parameter, name, parameter, sort_of, Book, AGENTS, DATA};
+use crate::interned::{children, children_mut, is_parameter, name, parameter, sort_of};
+use crate::interned::{Book, AGENTS, DATA};
 use crate::random::Random;
 
 /// A label that a step below will close.
@@ -39,12 +41,13 @@ enum Slip {
     Parameter,
 }
 
-/// Those from `Kind` on are tried more often: the last three need more to come together.
-const SLIPS: [Slip; 17] = [
+/// Those from `Variable` on are tried more often: the last three need more to come together.
+const SLIPS: [Slip; 18] = [
     Slip::Supposed,
     Slip::Hidden,
     Slip::Struck,
     Slip::Bystander,
+    Slip::Variable,
     Slip::Variable,
     Slip::Kind,
     Slip::Kind,
@@ -113,6 +116,7 @@ impl Maker<'_> {
             && self.case.obligations.len() <= 64
             && self.case.labels.len() <= 32;
         reorder(self.random, &mut self.case.steps);
+        renumber(self.random, &mut self.case);
         within.then_some(self.case)
     }
 
@@ -139,8 +143,15 @@ impl Maker<'_> {
         }
     }
 
+    /// A random policy: by a slip, two of them for all data.
     fn policy(&mut self, levels: usize) -> Option<u16> {
-        self.book.policy(self.random, levels, &[])
+        if !self.slips(Slip::Variable) {
+            return self.book.policy(self.random, levels, &[]);
+        }
+        let left = self.book.policy(self.random, levels, &[DATA])?;
+        let right = self.book.policy(self.random, levels, &[DATA])?;
+        let both = self.book.pair(3, left, right)?;
+        self.book.for_all(DATA, both)
     }
 
     fn ground_action(&mut self) -> Option<u16> {
@@ -184,6 +195,7 @@ impl Maker<'_> {
         let mut rules =
             vec![SEEN, SAYS, LEFT, RIGHT, IMPLIED, BY_OBLIGATION, BY_OBLIGATION, INSTANCE];
         let own: &[u16] = match self.book.kind(goal) {
+            _ if self.slip == Some(Slip::Variable) && self.has_data_variable(goal) => &[OWNER],
             2 if self.book.fields(goal)[0] == self.case.agent => match self.is_ownable(goal) {
                 true => &[OWNER, REFINE],
                 false => &[REFINE],
@@ -209,10 +221,13 @@ impl Maker<'_> {
         terms.filter(|term| sort_of(*term) == DATA).collect()
     }
 
+    fn has_data_variable(&self, formula: u16) -> bool {
+        let terms = self.book.terms(formula);
+        terms.iter().any(|(term, _)| Term::DATA_VARIABLES.contains(term))
+    }
+
     fn is_ownable(&self, goal: u16) -> bool {
-        let bound = |(term, _): &(u16, u16)| Term::DATA_VARIABLES.contains(term);
-        let free = !self.book.terms(goal).iter().any(bound);
-        (free || self.slip == Some(Slip::Variable)) && (1..=16).contains(&self.data_in(goal).len())
+        !self.has_data_variable(goal) && (1..=16).contains(&self.data_in(goal).len())
     }
 
     /// The shortest way: a supposition, a condition, a seen row, or what somebody said of it, with
@@ -363,9 +378,14 @@ impl Maker<'_> {
         self.step(REFINE, goal, ABSENT, &premises)
     }
 
+    /// From the formula's data. By a slip it may have none but variables, and then from any one.
     fn owner(&mut self, goal: u16) -> Option<u16> {
+        let mut data = self.data_in(goal);
+        if data.is_empty() {
+            data.insert(name(self.random, DATA));
+        }
         let mut premises = Vec::new();
-        for datum in self.data_in(goal) {
+        for datum in data {
             let owner = self.party();
             let owned = self.book.pair(1, owner, datum)?;
             premises.push(self.premise(owned)?);
@@ -510,23 +530,48 @@ pub fn others(random: &mut Random, agent: u16) -> BTreeSet<u16> {
     agents.into_iter().filter(|other| *other != agent).collect()
 }
 
+/// New numbers for records, so that each still comes after those that it names.
+fn new_numbers(random: &mut Random, named: &[Vec<u16>]) -> Vec<u16> {
+    let mut keys: Vec<usize> = Vec::new();
+    for named in named {
+        let behind = named.iter().map(|number| keys[*number as usize] + 1).max();
+        keys.push(behind.unwrap_or(0) + random.below(64));
+    }
+    let mut order: Vec<usize> = (0..keys.len()).collect();
+    order.sort_by_key(|old| keys[*old]);
+    let mut numbers = vec![0; keys.len()];
+    for (new, old) in (0..).zip(order) {
+        numbers[old] = new;
+    }
+    numbers
+}
+
+/// Records in the order of their new numbers.
+fn in_order<T>(records: Vec<T>, numbers: &[u16]) -> Vec<T> {
+    let mut numbered: Vec<(u16, T)> = numbers.iter().copied().zip(records).collect();
+    numbered.sort_by_key(|(number, _)| *number);
+    numbered.into_iter().map(|(_, record)| record).collect()
+}
+
 /// Another order of the steps, in which each premise is still earlier.
 fn reorder(random: &mut Random, steps: &mut Vec<Step>) {
-    let mut left: Vec<usize> = (0..steps.len()).collect();
-    let mut places = vec![ABSENT; steps.len()];
-    let mut ordered = Vec::new();
-    while !left.is_empty() {
-        let free = |step: &usize| {
-            steps[*step].premises.iter().all(|premise| places[*premise as usize] != ABSENT)
-        };
-        let ready: Vec<usize> = (0..left.len()).filter(|at| free(&left[*at])).collect();
-        let step = left.swap_remove(random.pick(&ready));
-        places[step] = ordered.len() as u16;
-        let mut moved = steps[step].clone();
-        for premise in &mut moved.premises {
-            *premise = places[*premise as usize];
-        }
-        ordered.push(moved);
+    let premises: Vec<Vec<u16>> = steps.iter().map(|step| step.premises.clone()).collect();
+    let numbers = new_numbers(random, &premises);
+    for premise in steps.iter_mut().flat_map(|step| &mut step.premises) {
+        *premise = numbers[*premise as usize];
     }
-    *steps = ordered;
+    *steps = in_order(mem::take(steps), &numbers);
+}
+
+/// Another order of the formulas, in which each child is still lower.
+fn renumber(random: &mut Random, case: &mut CaseFile) {
+    let below: Vec<Vec<u16>> = case.formulas.iter().map(|row| children(row).collect()).collect();
+    let numbers = new_numbers(random, &below);
+    for child in case.formulas.iter_mut().flat_map(children_mut) {
+        *child = numbers[*child as usize];
+    }
+    for number in case.formula_numbers().filter(|number| **number != ABSENT) {
+        *number = numbers[*number as usize];
+    }
+    case.formulas = in_order(mem::take(&mut case.formulas), &numbers);
 }

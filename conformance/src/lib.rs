@@ -24,5 +24,6 @@ pub mod proved;
 pub mod random;
 pub mod rooms;
 pub mod rounds;
+pub mod strays;
 pub mod streams;
 pub mod vectors;

@@ -4,7 +4,7 @@
 use crate::builder::*;
 use crate::checker::{Term, ABSENT};
 use crate::full_size::full_size;
-use crate::interned::AGENTS;
+use crate::interned::{AGENTS, DATA};
 use crate::random::{row as row_bytes, Row};
 use crate::rounds::{Rounds, AGENT};
 
@@ -38,6 +38,7 @@ pub fn loads() -> Vec<Load> {
         load("rule 5, 24 at the last step", owners_refused(|rounds| rounds.p)),
         load("rule 5, 25 at the last step", owners_refused(|rounds| rounds.pair(1, 1, data(15)))),
         load("rule 15, 26 at the last step", instances_refused()),
+        load("rule 5, 27 at the last step", strays_refused()),
     ]
 }
 
@@ -168,6 +169,12 @@ fn long_actions(policy: Policy) -> CaseFile {
 fn owner_walks(policy: Policy) -> CaseFile {
     let mut rounds = Rounds::new();
     let policy = policy(&mut rounds, 63);
+    owner_steps(&mut rounds, policy);
+    filled(rounds)
+}
+
+/// "Agent says so to 1" of a policy over one data object, at every second step.
+fn owner_steps(rounds: &mut Rounds, policy: u16) {
     let said = rounds.says(AGENT, policy, 1);
     let owned = rounds.pair(1, AGENT, data(0));
     let created = rounds.pair(9, AGENT, data(0));
@@ -176,7 +183,6 @@ fn owner_walks(policy: Policy) -> CaseFile {
         let seen = rounds.step(SEEN, owned, row, &[]);
         rounds.step(OWNER, said, ABSENT, &[seen]);
     }
-    filled(rounds)
 }
 
 /// For all and its instance in turn, from the formula that the last step gives, until so many
@@ -309,6 +315,24 @@ fn instances_refused() -> CaseFile {
     }
     let last = rounds.case.steps.last_mut().expect("there are steps");
     last.argument = data(1);
+    filled(rounds)
+}
+
+/// Rule 5 at every second step, each with a formula of 64 nodes. In the last one 31 leaves hold a
+/// data variable each, in their last field; a walk from the left meets the lowest of them last.
+fn strays_refused() -> CaseFile {
+    let mut rounds = Rounds::new();
+    let policy = wide(&mut rounds, 63);
+    owner_steps(&mut rounds, policy);
+    let fields = [data(0), data(0), data_variable(0)];
+    let mut leaf = |code| rounds.book.add(0, code, fields).expect("a leaf is small");
+    let leaves: Vec<u16> = (2..33).map(&mut leaf).collect();
+    let all = leaves[1..].iter().fold(leaves[0], |all, one| rounds.pair(3, *one, all));
+    let general = rounds.book.for_all(DATA, all).expect("62 nodes");
+    let told = rounds.says(1, general, 2);
+    let said = rounds.says(AGENT, told, 1);
+    let last = rounds.case.steps.last_mut().expect("there are steps");
+    last.formula = said;
     filled(rounds)
 }
 

@@ -1,6 +1,6 @@
 //! Changes to a case file that keep its layout, for the fuzzer: a field, a record, or a step more.
 
-use crate::builder::{agent_parameter, data, data_parameter};
+use crate::builder::{agent_parameter, data, data_parameter, data_variable};
 use crate::checker::{ABSENT, HEADER_BYTES, PARTS};
 use crate::random::Random;
 
@@ -38,13 +38,14 @@ fn set_word(bytes: &mut [u8], at: usize, value: usize) {
 /// A number that means something somewhere in a file.
 fn telling(random: &mut Random, before: usize) -> usize {
     let small = random.below(32);
-    match random.below(8) {
+    match random.below(9) {
         0 => ABSENT as usize,
         1 => before + 1,
         2 => before.wrapping_sub(1),
         3 => data(small as u16 % 4) as usize,
         4 => agent_parameter(small as u16 % 2) as usize,
         5 => data_parameter(small as u16 % 2) as usize,
+        6 => data_variable(small as u16 % 2) as usize,
         _ => small,
     }
 }

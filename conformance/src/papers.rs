@@ -30,7 +30,7 @@ fn paper_000() -> Vec<Vector> {
     let once = drink().change(|case| case.obligations[0].0 = 2);
     vec![
         passed("000-example-2", related(), &[], &[0]),
-        refused("000-example-2-not-refined", unrefined, 18, 1),
+        refused("000-example-2-not-refined", unrefined, 27, 5),
         refused("000-example-2-other-condition", other, 18, 1),
         passed("000-example-3", drink(), &[0], &[0]),
         refused("000-example-3-age-not-certified", uncertified, 14, 5),

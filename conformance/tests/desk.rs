@@ -61,13 +61,36 @@ fn misfits_by_rule() {
     }
 }
 
-/// A misfit of another rule than those that the header lists has the general words.
+/// A misfit of another rule than those that the header lists has the general words. So has 27.
 #[test]
 fn misfits_in_general() {
-    let general = words::meaning(25);
-    let verdict = Verdict::Refused { number: 25, place: 0 };
-    let said = words::words(&grant().to_bytes(), verdict, &[]);
-    assert_eq!(said, [format!("{} 0: {}", general.counts, general.wrong)]);
+    for (number, place, counts) in [(25, 0, "Step"), (27, 0, "Formula"), (27, 1, "Formula")] {
+        let said = words::words(&grant().to_bytes(), Verdict::Refused { number, place }, &[]);
+        assert_eq!(said, [format!("{counts} {place}: {}", words::meaning(number).wrong)]);
+    }
+}
+
+/// At the end of a case refused by 27 stands the formula that it tells, as in the list of formulas,
+/// and no step.
+#[test]
+fn formulas_with_a_data_variable() {
+    let mut found = 0;
+    for example in examples_and_vectors().into_iter().chain(all()) {
+        let Verdict::Refused { number: 27, place } = example.verdict else { continue };
+        let shown = show(&example.file);
+        let (_, listed) = shown.split_once("\nFormulas\n").expect("it has formulas");
+        let (number, row) = listed
+            .lines()
+            .nth(place as usize)
+            .and_then(|line| line.trim_start().split_once("  "))
+            .expect("a row");
+        assert_eq!(number, place.to_string());
+        let wrong = &words::meaning(27).wrong;
+        let end = format!("\nVerdict: refused 27 {place}\n  Formula {place}: {wrong}\n  {row}\n");
+        assert!(shown.ends_with(&end), "{shown}");
+        found += 1;
+    }
+    assert!(found > 10, "{found}");
 }
 
 #[test]
@@ -345,23 +368,36 @@ fn text_in(page: &str) -> (String, String) {
     (lines.map(|line| format!("{line}\n")).collect(), page)
 }
 
+/// The page has what is shown of a file from this beginning to the next empty line, each line
+/// indented.
+fn assert_quoted(page: &str, file: &[u8], beginning: &str) {
+    let shown = show(file);
+    let lines = shown.lines().skip_while(|line| !line.starts_with(beginning));
+    let lines: Vec<&str> = lines.take_while(|line| !line.is_empty()).collect();
+    let quoted: String = lines.iter().map(|line| format!("    {line}\n")).collect();
+    assert!(!lines.is_empty() && page.contains(&quoted), "{quoted}");
+}
+
 /// The texts in the pages are such, and the page on the notation has all rules.
 #[test]
 fn pages() {
     let (text, page) = text_in("README.md");
     let file = write(text.as_bytes()).expect("it is a text");
     assert_eq!(check(&file, &mut [0; ROOM]), Verdict::Passed { obligations: 0, rows: 1 });
-    let shown = show(&file);
-    let (_, steps) = shown.split_once("\nSteps\n").expect("it has steps");
-    for line in steps.lines().take_while(|line| !line.is_empty()) {
-        assert!(page.contains(&format!("\n    {line}\n")), "{line}");
-    }
+    assert_quoted(&page, &file, "Steps");
     let (text, page) = text_in("docs/NOTATION.md");
     let file = write(text.as_bytes()).expect("it is a text");
     assert_eq!(check(&file, &mut [0; ROOM]), Verdict::Refused { number: 22, place: 1 });
     for (words, _) in RULES {
         assert!(page.contains(&format!("`{words}")), "{words}");
     }
+    assert_quoted(&page, &example("grant-swap"), "Verdict: ");
+}
+
+/// The file of the example of this name.
+fn example(name: &str) -> Vec<u8> {
+    let found = all().into_iter().find(|example| example.name == name);
+    found.expect("there is such an example").file
 }
 
 /// Three examples as they are shown.
@@ -373,8 +409,6 @@ fn shown() {
         ("000-example-2", include_str!("shown/000-example-2.txt")),
     ];
     for (name, expected) in expected {
-        let found = all().into_iter().find(|example| example.name == name);
-        let file = found.expect("there is such an example").file;
-        assert_eq!(show(&file), expected, "{name}");
+        assert_eq!(show(&example(name)), expected, "{name}");
     }
 }

@@ -6,9 +6,11 @@ use conformance::builder::CaseFile;
 use conformance::cases::{examples, examples_and_vectors, grant, vector_files};
 use conformance::checker::{check, strike_unseen, Verdict, ABSENT};
 use conformance::desk::words::refusals;
+use conformance::justifications::slipping;
 use conformance::misfits::misfits;
 use conformance::random::{damage, Random};
 use conformance::rooms::{answer, room_too_short, PATTERN};
+use conformance::strays::{lowest_stray, strays};
 use conformance::vectors::Vector;
 
 fn run(file: &[u8], entries: usize) -> (Verdict, Vec<u16>) {
@@ -47,7 +49,7 @@ fn grant_has_106_bytes() {
 fn vectors_agree() {
     let files = vector_files();
     let all: Vec<Vector> = files.into_iter().flat_map(|(_, vectors)| vectors).collect();
-    assert!(all.len() >= 367, "{}", all.len());
+    assert!(all.len() >= 372, "{}", all.len());
     all.iter().for_each(assert_agrees);
 }
 
@@ -125,7 +127,7 @@ fn shortest_rooms() {
 }
 
 /// What holds of every answer, whatever the file.
-fn assert_well_formed(verdict: Verdict, room: &[u16]) {
+fn assert_well_formed(file: &[u8], verdict: Verdict, room: &[u16]) {
     let written = match verdict {
         Verdict::Passed { obligations, rows } => {
             let (duties, rest) = room.split_at(obligations as usize);
@@ -135,8 +137,11 @@ fn assert_well_formed(verdict: Verdict, room: &[u16]) {
             duties.len() + rows.len()
         }
         Verdict::NoneOwed => 0,
-        Verdict::Refused { number, .. } => {
+        Verdict::Refused { number, place } => {
             assert!(refusals().iter().any(|refusal| refusal.number == number));
+            if number == 27 {
+                assert_eq!(lowest_stray(file), Some(place), "{file:?}");
+            }
             0
         }
     };
@@ -159,9 +164,34 @@ fn damaged_files() {
         let file = damage(&vector.file, &mut random);
         let entries = random.below(8);
         let (verdict, room) = run(&file, entries);
-        assert_well_formed(verdict, &room);
+        assert_well_formed(&file, verdict, &room);
         assert_blind_to_unseen(&file, entries);
         passes += usize::from(matches!(verdict, Verdict::Passed { .. }));
     }
     assert!(passes > 1_000, "{passes}");
+}
+
+/// Random slips bring 27 for every kind of formula that can have a bound variable in it, with every
+/// kind of row that can hold one; in some the lowest row is not the one that a walk meets first.
+#[test]
+fn data_variables_anywhere() {
+    let mut random = Random(0x2545_F491_4F6C_DD1D);
+    let (mut refused, mut met_later) = (0, 0);
+    let (mut formulas, mut rows) = (BTreeSet::new(), BTreeSet::new());
+    for _ in 0..40_000 {
+        let case = slipping(&mut random);
+        let file = case.to_bytes();
+        let (verdict, room) = run(&file, 0);
+        assert_well_formed(&file, verdict, &room);
+        let Verdict::Refused { number: 27, place } = verdict else { continue };
+        let kind = |row: u16| case.formulas[row as usize].kind;
+        let found = strays(&file).expect("there are some");
+        refused += 1;
+        met_later += usize::from(found.rows[0] != place);
+        formulas.insert(kind(found.formula));
+        rows.insert(kind(place));
+    }
+    assert!(refused >= 1_000 && met_later >= 100, "{refused}, {met_later}");
+    assert_eq!(formulas, BTreeSet::from([2, 3, 4, 5, 6, 7]));
+    assert_eq!(rows, BTreeSet::from([0, 1, 9, 10]));
 }

@@ -164,6 +164,9 @@ fn console_words() {
     let swapped =
         "Step 3: the first premise of rule 10 (implied) is no implication, \"F implies G\".";
     says(&example("visit-premises-swapped"), swapped);
+    let data_variable = "Formula 2: it holds a data variable, and stands in the formula of an \
+                         owner step (rule 5), which may hold none.";
+    says(&example("grant-swap"), data_variable);
 }
 
 /// Runs a program over a file that is longer than any case, and tells how many bytes it has read.

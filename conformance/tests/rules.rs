@@ -3,6 +3,7 @@
 
 use conformance::builder::*;
 use conformance::checker::{check, Verdict, ABSENT};
+use conformance::strays::strays;
 
 const HOLDS: u16 = 0;
 
@@ -14,6 +15,12 @@ fn last_step(case: &CaseFile) -> u16 {
     conformance::rooms::agreed_in_all_rooms(&file);
     match check(&file, &mut []) {
         Verdict::Refused { number: 20..=22, .. } => HOLDS,
+        Verdict::Refused { number: 27, place } => {
+            let told = strays(&file).expect("it has a data variable");
+            assert_eq!(Some(told.formula), case.steps.last().map(|step| step.formula));
+            assert_eq!(told.rows.into_iter().min(), Some(place));
+            27
+        }
         Verdict::Refused { number, place } => {
             assert_eq!(place as usize + 1, case.steps.len(), "refused {number} {place}");
             number
@@ -164,12 +171,149 @@ fn owner() {
     assert_eq!(owner(&all_but_the_last, "1 says 0"), 25);
     assert_eq!(owner(&["1 owns 0"], "2 says 0"), 18);
     assert_eq!(owner(&["1 owns 0"], "of 0"), 18);
-    assert_eq!(owner(&["1 owns 0"], "1 says x"), 18);
+    assert_eq!(owner(&["1 owns 0"], "1 says x"), 27);
     assert_eq!(owner(&["1 owns 0"], "1 says no x"), HOLDS);
     assert_eq!(owner(&["1 owns 0"], "1 says p to 2"), 18);
     assert_eq!(owner(&[], "1 says p to 2"), 12);
     assert_eq!(owner(&["1 owns 0"; 16], "1 says 0"), 18);
     assert_eq!(owner(&["1 owns 0"; 17], "1 says 0"), 12);
+}
+
+/// "1 says" this body, for all agents and all data, by rule 5 from "1 owns 0". In the body data
+/// variable 0 and agent variable 1 are bound.
+fn owner_of_all(case: CaseFile, body: &'static str) -> CaseFile {
+    case.formula("1 owns 0", owns(1, data(0)))
+        .formula("for all data", for_all_data(body))
+        .formula("for all", for_all_agents("for all data"))
+        .formula("1 says for all", says(1, "for all", 2))
+        .step_from(OWNER, &["1 owns 0"], ABSENT, "1 says for all")
+}
+
+/// The name of the row that 27 tells.
+fn stray_row(case: CaseFile, body: &'static str) -> &'static str {
+    let case = owner_of_all(case, body);
+    assert_eq!(last_step(&case), 27);
+    match check(&case.to_bytes(), &mut []) {
+        Verdict::Refused { place, .. } => case.names[place as usize],
+        verdict => panic!("{verdict}"),
+    }
+}
+
+/// Every field of every kind of row that may hold a data variable, inside actions too.
+#[test]
+fn data_variable_in_each_field() {
+    let (x, y) = (data_variable(0), agent_variable(1));
+    let policies = || {
+        [
+            predicate(7, &[x]),
+            predicate(7, &[data(0), x]),
+            predicate(7, &[y, data(0), x]),
+            predicate(7, &[x, x, x]),
+            owns(1, x),
+            owns(y, x),
+        ]
+    };
+    let actions = || [creates(1, x), user_action(5, &[1, x]), user_action(5, &[y, data(0), x])];
+    for row in policies() {
+        assert_eq!(stray_row(scene().formula("row", row), "row"), "row");
+    }
+    for row in policies() {
+        let told = scene().formula("row", row).formula("1 tells", communicates(1, "row", y));
+        let duty = told.formula("duty", once("1 tells", "p"));
+        assert_eq!(stray_row(duty, "duty"), "row");
+    }
+    for duty in [each_use, once] {
+        for row in actions() {
+            let case = scene().formula("row", row).formula("duty", duty("row", "p"));
+            assert_eq!(stray_row(case, "duty"), "row");
+        }
+    }
+}
+
+/// Of several rows the lowest is told, wherever it stands in the formula. Rows that the formula does
+/// not have in it, and rows with other terms only, are passed over.
+#[test]
+fn lowest_row_with_a_data_variable() {
+    let x = data_variable(0);
+    let rows = || {
+        scene()
+            .formula("elsewhere", predicate(6, &[x]))
+            .formula("of agents", predicate(7, &[agent_variable(1), data(0), data_parameter(0)]))
+            .formula("low", predicate(8, &[x]))
+            .formula("low act", user_action(8, &[1, x]))
+            .formula("high", predicate(9, &[x]))
+            .formula("high act", user_action(9, &[1, x]))
+            .formula("1 tells low", communicates(1, "low", 2))
+    };
+    let told = |body| stray_row(rows().formula("body", body), "body");
+    assert_eq!(told(and("low", "high")), "low");
+    assert_eq!(told(and("high", "low")), "low");
+    assert_eq!(told(and("high", "high")), "high");
+    assert_eq!(told(implies("high", "low")), "low");
+    assert_eq!(told(implies("of agents", "high")), "high");
+    assert_eq!(told(and("high", "of agents")), "high");
+    assert_eq!(told(each_use("low act", "high")), "low act");
+    assert_eq!(told(each_use("high act", "low")), "low");
+    assert_eq!(told(once("high act", "p")), "high act");
+    assert_eq!(told(once("1 tells low", "high")), "low");
+    assert_eq!(told(says(2, "high", 3)), "high");
+    let apart = rows().formula("far", and("p", "high")).formula("near", says(2, "low", 3));
+    assert_eq!(stray_row(apart.formula("body", implies("far", "near")), "body"), "low");
+    let agents = rows().formula("all agents", predicate(7, &[agent_variable(1), data(0)]));
+    assert_eq!(last_step(&owner_of_all(agents, "all agents")), HOLDS);
+}
+
+/// The variable of the outermost of eight for-alls has number 7: a data variable is told, and the
+/// agent variable of the number before data variable 0 is not.
+#[test]
+fn variables_of_the_highest_number() {
+    const DEPTHS: [&str; 7] = ["1", "2", "3", "4", "5", "6", "7"];
+    let under = |row: Sketch, for_all: fn(&'static str) -> Sketch| {
+        let mut case = owner_scene().formula("row", row);
+        let mut body = "row";
+        for depth in DEPTHS {
+            case = case.formula(depth, for_all(body));
+            body = depth;
+        }
+        let case =
+            case.formula("eight", for_all(body)).formula("1 says eight", says(1, "eight", 2));
+        step(case, OWNER, &["1 owns 0"], ABSENT, "1 says eight")
+    };
+    assert_eq!(under(predicate(7, &[data(0), data_variable(7)]), for_all_data), 27);
+    assert_eq!(under(predicate(7, &[data(0), agent_variable(7)]), for_all_agents), HOLDS);
+}
+
+/// 27 is of the owner rule alone, and of its own formula, whatever that is; it comes before the
+/// other misfits, and after the checks of a step's shape and uses.
+#[test]
+fn data_variables_and_other_faults() {
+    let owner = |premises: &[&str], formula| {
+        let case = owner_scene()
+            .formula("2 says x", says(2, "for all x", 1))
+            .formula("x implies p", implies("for all x", "p"));
+        step(case, OWNER, premises, ABSENT, formula)
+    };
+    for formula in ["1 says x", "2 says x", "for all x", "x implies p"] {
+        for premise in ["1 owns 0", "1 owns 1", "2 owns 0", "p", "for all x"] {
+            assert_eq!(owner(&[premise], formula), 27);
+        }
+    }
+    assert_eq!(owner(&["for all x"], "1 says 0"), 24);
+    assert_eq!(owner(&["1 owns 0"], "of 0 and x"), 12);
+    assert_eq!(owner(&[], "1 says x"), 12);
+    assert_eq!(owner(&["1 owns 0"; 17], "1 says x"), 12);
+    for second in [1, 2] {
+        let met = met_twice(1, "act each use, p", second)
+            .formula("of x", predicate(7, &[data_variable(0)]))
+            .formula("for all x", for_all_data("of x"))
+            .step(OWNER, "for all x", ABSENT, &[1, 3]);
+        assert_eq!(last_step(&met), if second == 1 { 17 } else { 27 });
+    }
+    for rule in [SAYS, LEFT, RIGHT] {
+        assert_eq!(step(owner_scene(), rule, &["p"], ABSENT, "1 says x"), 24);
+    }
+    let labelled = owner_scene().label(0, "1 says x");
+    assert_eq!(step(labelled, SUPPOSE, &[], 0, "1 says x"), HOLDS);
 }
 
 #[test]
@@ -481,7 +625,8 @@ fn marks_that_do_not_match() {
     assert_eq!(step(given(), BY_LABEL, &["p"], 1, "p"), 24);
 }
 
-/// Of several faults the first in the order of the checks is told: 17, 24, 25, 26, 18.
+/// Of several faults the first in the order of the checks is told: 17, 24, 25, 26, 18. Those with a
+/// data variable are above.
 #[test]
 fn several_faults() {
     let at = |rule, premises: &[&str], argument, formula| {

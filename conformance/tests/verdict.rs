@@ -16,6 +16,7 @@ use conformance::loads::loads;
 use conformance::proved;
 use conformance::random::Random;
 use conformance::rooms::{agreed, agreed_in_all_rooms, answer, room_too_short, PATTERN};
+use conformance::strays::{lowest_stray, strays};
 
 #[test]
 fn every_example_and_vector() {
@@ -55,9 +56,13 @@ fn random_file(turn: usize, random: &mut Random) -> (&'static str, Vec<u8>) {
     }
 }
 
-/// 24, 25 and 26 come only with the rules for which the header has words.
-fn assert_step_fault(file: &[u8], verdict: Verdict) {
+/// 24, 25 and 26 come only with the rules for which the header has words. The place of 27 is a
+/// formula, and the one due.
+fn assert_place(file: &[u8], verdict: Verdict) {
     let Verdict::Refused { number, place } = verdict else { return };
+    if number == 27 {
+        assert_eq!(lowest_stray(file), Some(place), "{file:?}");
+    }
     if step_faults().iter().any(|fault| fault.number == number) {
         let rule = read(file).expect("it is sound").case.steps[place as usize].rule;
         let told = step_faults().iter().any(|fault| (fault.number, fault.rule) == (number, rule));
@@ -72,7 +77,7 @@ fn run(seed: u64, turns: usize) -> (Answers, BTreeMap<&'static str, usize>) {
     for turn in 0..turns {
         let (way, file) = random_file(turn, &mut random);
         let verdict = agreed_in_all_rooms(&file);
-        assert_step_fault(&file, verdict);
+        assert_place(&file, verdict);
         count(&mut answers, verdict);
         let times = refused.entry(way).or_insert(0);
         *times += usize::from(matches!(verdict, Verdict::Refused { .. }));
@@ -81,7 +86,8 @@ fn run(seed: u64, turns: usize) -> (Answers, BTreeMap<&'static str, usize>) {
 }
 
 /// Misfits of every number come this often in the random files.
-const OFTEN: [(&str, usize); 4] = [
+const OFTEN: [(&str, usize); 5] = [
+    ("DATA_VARIABLE", 3_000),
     ("WRONG_PREMISE_KIND", 3_000),
     ("WRONG_PARTY", 3_000),
     ("WRONG_INSTANCE", 3_000),
@@ -180,7 +186,10 @@ fn stack_of_64_kib() {
         let place = case.steps.len() as u16 - 1;
         refused(case.clone(), due, place);
     }
-    assert_eq!(misfits.len(), 3);
+    let met = strays(&misfits[3].to_bytes()).expect("there are some").rows;
+    assert_eq!((met.len(), met.iter().min()), (31, met.last()));
+    refused(misfits[3].clone(), 27, met[30]);
+    assert_eq!(misfits.len(), 4);
     let cases = misfits.into_iter().chain([full_size(), last_refused]);
     for file in cases.map(|case| case.to_bytes()) {
         let expected = answer(check, &file, ROOM);

@@ -75,6 +75,28 @@ impl Formula {
         }
     }
 
+    /// The formulas reached from this one, itself and actions included, that themselves hold a data
+    /// variable. The fields left out here are agents'.
+    pub(super) fn strays(&self) -> Vec<&Formula> {
+        let mut found = Vec::new();
+        self.gather_strays(&mut found);
+        found
+    }
+
+    fn gather_strays<'a>(&'a self, found: &mut Vec<&'a Formula>) {
+        match self {
+            Predicate(_, terms) | User(_, terms) => {
+                found.extend(terms.iter().any(is_data_variable).then_some(self))
+            }
+            Owns(_, y) | Creates(_, y) => found.extend(is_data_variable(y).then_some(self)),
+            Says(_, f, _) | Communicates(_, f, _) | ForAll(_, f) => f.gather_strays(found),
+            And(f, g) | Implies(f, g) | Obliges(_, f, g) => {
+                f.gather_strays(found);
+                g.gather_strays(found);
+            }
+        }
+    }
+
     /// "Closed: no free variable." A variable that counts beyond the binders around it is free.
     pub(super) fn is_closed(&self) -> bool {
         let bound =
@@ -122,6 +144,10 @@ impl Formula {
 
 fn is_variable(term: &Term, sort: Sort, index: u16) -> bool {
     term.shape == Shape::Variable && term.sort == sort && term.index == index
+}
+
+fn is_data_variable(term: &Term) -> bool {
+    term.shape == Shape::Variable && term.sort == Sort::Data
 }
 
 /// Checks 3 and 4 over the bytes of a formulas part. A length that makes the part faulty is

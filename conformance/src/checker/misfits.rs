@@ -1,13 +1,29 @@
-//! Misfits that have numbers of their own, "24 wrong premise kind, 25 wrong party, 26 wrong
-//! instance, tried in that order just before 18"; checks 24 to 26. Words in quotes are document
-//! 02's.
+//! Misfits that have numbers of their own: "24 wrong premise kind, 25 wrong party, 26 wrong
+//! instance, tried in that order just before 18", and "27 data variable under an owner step", "just
+//! before 24". Words in quotes are document 02's.
+
+use std::ptr;
 
 use super::formulas::Formula::{self, *};
 use super::steps::Inference;
 use super::terms::Term;
-use super::Refusal;
+use super::{refusal, Refusal};
 
 impl Inference<'_> {
+    /// 27: the place is "the lowest row reached from the formula that itself holds one". Every
+    /// formula reached is the book's own row, so its number is told by where it lies.
+    pub(super) fn check_27(&self) -> Result<(), Refusal> {
+        if self.rule != 5 {
+            return Ok(());
+        }
+        let row = |stray: &Formula| self.case.book.iter().position(|row| ptr::eq(&**row, stray));
+        let known = |stray| row(stray).expect("a formula reached is a row of the book");
+        match self.formula.strays().into_iter().map(known).min() {
+            Some(lowest) => Err(refusal(27, lowest)),
+            None => Ok(()),
+        }
+    }
+
     /// 24: "a premise of the wrong kind".
     pub(super) fn check_24(&self) -> Result<(), Refusal> {
         self.ensure(self.numbered().all(|(place, premise)| has_kind(self.rule, place, premise)), 24)

@@ -1,5 +1,5 @@
-//! The steps of a justification, one after the other; checks 12 to 19 and 24 to 26, of which 18 is
-//! in `rules`, and 24 to 26 are in `misfits`.
+//! The steps of a justification, one after the other; checks 12 to 19 and 24 to 27, of which 18 is
+//! in `rules`, and 24 to 27 are in `misfits`.
 
 use std::collections::BTreeSet;
 use std::ops::{Range, RangeInclusive};
@@ -39,7 +39,7 @@ pub(super) struct Inference<'a> {
 }
 
 /// One step through its checks. "One exception: at a seen step, 16 comes before 14 for a struck
-/// row." And 24 to 26 are "tried in that order just before 18".
+/// row." And 24 to 26 are "tried in that order just before 18", with 27 "just before 24".
 pub(super) fn take_step(case: &Case, proof: &mut Proof) -> Result<(), Refusal> {
     let place = proof.proved.len();
     let (formula, span) = check_12(case, proof, place)?;
@@ -60,6 +60,7 @@ pub(super) fn take_step(case: &Case, proof: &mut Proof) -> Result<(), Refusal> {
     inference.check_16()?;
     inference.check_14_struck()?;
     inference.check_17(&proof.obligations)?;
+    inference.check_27()?;
     inference.check_24()?;
     inference.check_25()?;
     inference.check_26()?;

@@ -136,9 +136,10 @@ fn refused(file: &[u8], number: u16, place: u16) -> String {
     }
 }
 
-/// What the header says of this refusal for the rule of the step at this place.
+/// What the header says of this refusal for the rule of the step at this place. Only where it tells
+/// the refusal by the rule is the place taken for a step.
 fn by_rule(file: &[u8], number: u16, place: u16) -> Option<&'static String> {
-    let rule = read(file)?.case.steps.get(place as usize)?.rule;
-    let told = step_faults().iter().find(|fault| (fault.number, fault.rule) == (number, rule));
-    told.map(|fault| &fault.wrong)
+    let rule = || Some(read(file)?.case.steps.get(place as usize)?.rule);
+    let mut told = step_faults().iter().filter(|fault| fault.number == number);
+    told.find(|fault| rule() == Some(fault.rule)).map(|fault| &fault.wrong)
 }

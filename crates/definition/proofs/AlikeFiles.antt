@@ -7,7 +7,7 @@ use Rattle.definition.proofs.PartLaws.{same-count}
 use Rattle.definition.proofs.ViewLaws.{views-alike}
 use Rattle.definition.specs.04-Checks.{single, each}
 use Rattle.definition.specs.11-Layout.{formula-part, condition-part, obligation-part, label-part, step-part, premise-part, agentOf, part, count, field}
-use Rattle.definition.specs.14-Book.{treeIn}
+use Rattle.definition.specs.14-Book.{treeIn, strayRow}
 use Rattle.definition.specs.15-Records.{logOf, formulas, conditionFormula, obligationMark, obligationAction, labelMark, labelFormula, stepRule, stepFormula, stepArgument, stepFrom, stepCount, premiseStep, badCondition, badObligation, badLabel, badAudit, recordChecks}
 use Rattle.definition.specs.16-Views.{rowView}
 use Rattle.definition.specs.17-Case.{reading, caseOf}
@@ -58,7 +58,7 @@ module _ (s t : List ℕ) (f : Parted s) (g : Parted t) (a : Alike s t) where
         labels = same-records label-part (omega arith) (a .labels) i;
         label = λ k. record { mark = label k 0 i; formula = treeIn l (label k 2 i) };
         steps = same-records step-part (omega arith) (a .steps) i;
-        step = λ k. record { rule = step k 0 i; formula = treeIn l (step k 2 i); argument = step k 4 i; from = step k 6 i; len = step k 8 i };
+        step = λ k. record { rule = step k 0 i; formula = treeIn l (step k 2 i); stray = strayRow (a .formulas i) (step k 2 i); argument = step k 4 i; from = step k 6 i; len = step k 8 i };
         premises = same-records premise-part (omega arith) (a .premises) i;
         premise = λ j. premise j 0 i;
       }

@@ -16,6 +16,7 @@ use Rattle.definition.proofs.NoneOwed.{none-owed-exactly}
 use Rattle.definition.proofs.PassesExactly.{passes-exactly, refused-for-room}
 use Rattle.definition.proofs.RangeLaws.{all-true}
 use Rattle.definition.proofs.RefusalTable.{refused-by-table}
+use Rattle.definition.proofs.StrayPlaces.{tells-stray}
 use Rattle.definition.proofs.StruckFile.{strikes-unseen}
 use Rattle.definition.specs.01-Words.{absent}
 use Rattle.definition.specs.02-Ranges.{all}
@@ -28,11 +29,12 @@ use Rattle.definition.specs.22-Steps.{usedIn, premisesOf, misshapen, bad
 use Rattle.definition.specs.31-Outcome.{lastStep, unusedStep, openLabel, owingChecks, finalState, refused, outcome}
 use Rattle.definition.specs.42-Account.{Owes}
 use Rattle.definition.specs.44-Demands.{StepsHold, InTable, in-step, in-end, Passes, Justified, Needs, Lists, HeaderOfBytes}
+use Rattle.definition.specs.46-Requests.{StrayTold}
 use Rattle.definition.specs.51-Files.{createsRow}
 use Rattle.definition.specs.52-Evaluation.{evaluated}
 use Rattle.definition.specs.53-Desk.{lent, grantWith, grant, visit, twice, built}
 use Rattle.definition.specs.56-SeenRows.{fourRows, rows-admitted}
-use Rattle.definition.specs.58-Table.{grantByte, grantAnd, laterPremise, supposedOwed, builtTable}
+use Rattle.definition.specs.58-Table.{grantByte, grantAnd, laterPremise, supposedOwed, stray, builtTable}
 
 -- Demand 1: what a refusal by 2, 4, 13, 17, 21 and 23 says.
 pub part-told : InTable (grantByte 4 35) 3 2 0
@@ -58,6 +60,15 @@ open-label-told = refused-by-table supposedOwed lent 21 0 .0 refl
 pub short-room-told : InTable grant 0 23 1
 unfolding built
 short-room-told = refused-by-table grant [] 23 1 .0 refl
+
+-- Refusals by 27: the lowest of two rows, of which a walk from the left meets the other first; in two files with the same formulas, whose owner steps have the same formula and other premises, as `PlaceByBook` takes them.
+pub lowest-told : StrayTold (stray 5 (2 ∷ []) 14) 4
+unfolding builtTable
+lowest-told = tells-stray (stray 5 (2 ∷ []) 14) lent 4 refl
+
+pub lowest-told-too : StrayTold (stray 5 (0 ∷ []) 14) 4
+unfolding builtTable
+lowest-told-too = tells-stray (stray 5 (0 ∷ []) 14) lent 4 refl
 
 -- The other way: checks 1 to 11 and all of step 0 hold, at step 1 check 12 holds and 13 fails; so 13 is told, with step 1.
 pub premise-fails : InTable laterPremise 3 13 1

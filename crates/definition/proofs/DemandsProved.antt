@@ -1,9 +1,10 @@
--- The three demands, proved of the definition. Each is stated in specs/44-Demands. What requests leave as it was, stated in specs/46-Requests. Assumes nothing.
+-- The three demands, proved of the definition. Each is stated in specs/44-Demands, but that the place of 27 is by the book alone; that, and what requests promise and leave as it was, in specs/46-Requests. Assumes nothing.
 use Rattle.definition.proofs.CitedLists as cited
 use Rattle.definition.proofs.MisfitLaws as misfits
 use Rattle.definition.proofs.NoneOwed as none
 use Rattle.definition.proofs.OneNumber.{one-number}
 use Rattle.definition.proofs.OwnNumbers as own
+use Rattle.definition.proofs.StrayPlaces as strays
 use Rattle.definition.proofs.PassesExactly as account
 use Rattle.definition.proofs.Findings as order
 use Rattle.definition.proofs.RefusalTable as table
@@ -11,7 +12,7 @@ use Rattle.definition.proofs.RoomLaws as room
 use Rattle.definition.proofs.StruckFile as struck
 use Rattle.definition.proofs.UnseenRows as unseen
 use Rattle.definition.specs.44-Demands.{RefusalKeepsRoom, NoneOwedKeepsRoom, PassKeepsRest, FirstIsTold, RefusedByTable, StepIsPlace, PassesExactly, RefusedForRoom, NoneOwedExactly, PassLists, EachUseOnce, UnseenRowsAreUnseen, AsIfStruck, StrikesUnseen, OneMeaningOneNumber}
-use Rattle.definition.specs.46-Requests.{NumbersAlone, FitsAsBefore}
+use Rattle.definition.specs.46-Requests.{NumbersAlone, FitsAsBefore, TellsStray, PlaceByBook, StraysAlone}
 
 pub record Demand1 : Type 0 where
   pub refusal-keeps-room : RefusalKeepsRoom
@@ -32,10 +33,15 @@ pub record Demand3 : Type 0 where
   pub unseen-rows-are-unseen : UnseenRowsAreUnseen
   pub as-if-struck : AsIfStruck
   pub strikes-unseen : StrikesUnseen
+  pub place-by-book : PlaceByBook
 
 pub record Request1 : Type 0 where
   pub numbers-alone : NumbersAlone
   pub fits-as-before : FitsAsBefore
+
+pub record Request2 : Type 0 where
+  pub tells-stray : TellsStray
+  pub strays-alone : StraysAlone
 
 pub demand-1 : Demand1
 demand-1 =
@@ -64,6 +70,7 @@ demand-3 =
       unseen-rows-are-unseen = unseen.unseen-rows-are-unseen;
       as-if-struck = unseen.as-if-struck;
       strikes-unseen = struck.strikes-unseen;
+      place-by-book = strays.place-by-book;
     }
 
 pub one-meaning-one-number : OneMeaningOneNumber
@@ -71,3 +78,6 @@ one-meaning-one-number = one-number
 
 pub request-1 : Request1
 request-1 = record { numbers-alone = own.numbers-alone; fits-as-before = misfits.fit-checks }
+
+pub request-2 : Request2
+request-2 = record { tells-stray = strays.tells-stray; strays-alone = own.strays-alone }

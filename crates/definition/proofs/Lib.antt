@@ -24,6 +24,8 @@ pub mod RuleLaws
 pub mod MisfitLaws
 pub mod StepLaws
 pub mod OwnNumbers
+pub mod StrayLaws
+pub mod StrayPlaces
 pub mod Sound
 pub mod Complete
 pub mod Findings

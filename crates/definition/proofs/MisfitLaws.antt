@@ -1,4 +1,4 @@
--- Checks 24 to 26 say why a step does not fit: where check 18 holds, so do they. Rule by rule. Assumes nothing.
+-- Checks 27 and 24 to 26 say why a step does not fit: where check 18 holds, so do they. Rule by rule. Assumes nothing.
 use Prim.Native.Nat.{ℕ, zero, suc, _≤_, _<_}
 use mathlib.Core.Path.{_≡_, refl, sym, ap, subst}
 use mathlib.Core.Bool.{Bool, true, false, not, and-false, _&&_}
@@ -6,17 +6,17 @@ use mathlib.Core.Logic.{⊎-elim}
 use mathlib.Core.List.{List, [], _∷_, map}
 use native.Mathlib.Omega.{arith}
 use lib.ListN.{length, getD, List·getD-eq-default}
-use lib.Dec.{ltb}
-use borrow.Author.Tests.{ltb-true, ltb-false, eq-eqb, not-false}
+use lib.Dec.{eqb, ltb}
+use borrow.Author.Tests.{ltb-true, ltb-false, eqb-true, eq-eqb, not-false, not-true}
 use Rattle.definition.proofs.RangeLaws.{any-none}
 use Rattle.definition.proofs.RuleLaws.{Numbered, rule-0, rule-1, rule-2, rule-3, rule-4, rule-5, rule-6, rule-7, rule-8, rule-9, rule-10, rule-11, rule-12, rule-13, rule-14, rule-15, numbered, duty-is, same-all}
-use Rattle.definition.proofs.Tests.{and-true, not-both}
+use Rattle.definition.proofs.Tests.{and-true, not-both, never-true}
 use Rattle.definition.proofs.TreeEquality.{same-true}
 use Rattle.definition.specs.13-Formulas.{Formula, no-formula, owns, says, after, same, data-variable, has, source, target, firstPart, dataOf}
 use Rattle.definition.specs.15-Records.{isDuty}
 use Rattle.definition.specs.17-Case.{Case}
 use Rattle.definition.specs.21-Rules.{first, second, say, refine, owner, andLeft, andRight, impliesElim, dutyByObligation, dutyByLabel, forAllIntro, forAllElim, admitsParameter, admitsTerm, otherPremise, otherFormula, noInstance, Asked, says-to-agent, agent-says, agent-owns, an-and, a-for-all, an-implies, a-duty, hasKind, hasParty, isOtherKind, isOtherParty, Asks, inTurn, ofEvery, anyFaulty, Rule, rule, rules, ruleAt}
-use Rattle.definition.specs.22-Steps.{ruleOf, wrongKind, wrongParty, wrongInstance, misfit, fitChecks}
+use Rattle.definition.specs.22-Steps.{ruleOf, strayVariable, wrongKind, wrongParty, wrongInstance, misfit, misfitChecks, fitChecks}
 use Rattle.definition.specs.46-Requests.{FitsAsBefore}
 
 -- a premise is as asked, and so are all premises
@@ -110,12 +110,25 @@ module _ (c : Case) (f : Formula) (a : ℕ) (ps : List Formula) where
       go true e = by-rule (numbered r (ltb-true r 16 e)) h
       go false e = absurd (not-both h (no-rule r (ltb-false r 16 e)))
 
--- Check 18 holds just if all of 24, 25, 26 and 18 do.
+-- Where rule 5's test holds, no data variable stands in the formula.
+owner-clear : (c : Case) (f : Formula) (a : ℕ) (ps : List Formula) → ruleAt 5 .fits c f a ps ≡ true → has data-variable 0 f ≡ false
+unfolding ruleAt rules rule owner
+owner-clear c f a ps h =
+    let g = and-true (same f (says (c .agent) (firstPart f) (target f)) && not (has data-variable 0 f)) _ h in
+    not-true _ (and-true (same f (says (c .agent) (firstPart f) (target f))) _ (g .0) .1)
+
+-- Check 18 holds just if all of 27, 24, 25, 26 and 18 do.
 pub fit-checks : FitsAsBefore
-unfolding fitChecks wrongKind wrongParty wrongInstance misfit ruleOf
+unfolding fitChecks misfitChecks strayVariable wrongKind wrongParty wrongInstance misfit ruleOf
 fit-checks c k = (
-  λ h. h .1 .1 .1 .0,
+  λ h. h .1 .1 .1 .1 .0,
   λ e.
-      let x = explains c _ _ _ (c .step k .rule) (not-false _ e) in
-      (right-kinds (c .agent) _ _ (x .0), (right-parties (c .agent) _ _ (x .0), (x .1, (e, tt)))),
+      let fits = not-false _ e in
+      let x = explains c _ _ _ (c .step k .rule) fits in
+      let clear : strayVariable c k ≡ false =
+      never-true _
+      (λ h.
+      let w = and-true (eqb (c .step k .rule) 5) _ h in
+      not-both (w .1) (owner-clear c _ _ _ (rw (eqb-true (c .step k .rule) 5 (w .0)) at fits))) in
+      (clear, (right-kinds (c .agent) _ _ (x .0), (right-parties (c .agent) _ _ (x .0), (x .1, (e, tt))))),
 )

@@ -8,7 +8,7 @@ use borrow.Author.Tests.{leb-true, le-leb, eqb-true, eq-eqb}
 use Rattle.definition.proofs.Tests.{or-is, or-is₃, not-is, refutes}
 use Rattle.definition.specs.12-Terms.{Sort, agents, data-objects, sameSort, Class, object, parameter, variable, absent-term, no-term, classOf, isObject, isParameter, isVariable, isFree, isInstance}
 use Rattle.definition.specs.13-Formulas.{Formula, predicate, owns, says, and, for-all, implies, after, communicates, creates, user-action, no-formula, Sought, this-term, data-variable, free-variable, isSought, has, closed, isPolicy}
-use Rattle.definition.specs.41-Occurrences.{Somewhere, Mentions, FreeVariable, Closed, MentionsDataVariable, Instance, Policy}
+use Rattle.definition.specs.41-Occurrences.{Somewhere, Mentions, FreeVariable, Closed, DataVariable, MentionsDataVariable, Instance, Policy}
 
 -- The classes.
 
@@ -106,7 +106,7 @@ pub data-variable-is : (f : Formula) → (has data-variable 0 f ≡ false) ↔ (
 unfolding isSought
 data-variable-is f =
     refutes
-    (has-is data-variable (λ d t. (n : ℕ) × (classOf t ≡ variable data-objects n)) (λ d t. variable-class data-objects (classOf t)) 0 f)
+    (has-is data-variable (λ d t. DataVariable t) (λ d t. variable-class data-objects (classOf t)) 0 f)
 
 pub policy-is : (f : Formula) → (isPolicy f ≡ true) ↔ Policy f
 unfolding isPolicy

@@ -1,13 +1,16 @@
--- Request 1 changes numbers alone: a run of all checks without 24, 25 and 26 ends where the run with them ends. Group by group, by appending. Assumes nothing.
+-- What requests 1 and 2 leave as it was: a run of all checks without theirs ends as the run with them, in a relation that each request states. Group by group, by appending; the checks of how a step fits are given. Assumes nothing.
 use Prim.Native.Nat.{ℕ, zero, suc, _+_}
 use mathlib.Core.Path.{_≡_, refl, sym, ap}
 use mathlib.Core.Bool.{Bool, true, false, cond, _||_}
+use mathlib.Core.Logic.{_⊎_, inl, inr, ⊎-elim}
 use mathlib.Core.Option.{Option, none, some}
 use mathlib.Core.List.{List, [], _∷_, _++_}
 use lib.ListN.{length}
+use lib.Dec.{eqb}
+use borrow.Author.Tests.{eqb-true}
 use Rattle.definition.proofs.CheckLaws.{in-order-append, try-each}
 use Rattle.definition.proofs.MisfitLaws.{fit-checks}
-use Rattle.definition.proofs.Tests.{or-false}
+use Rattle.definition.proofs.Tests.{and-true, or-false, not-both, never-false}
 use Rattle.definition.specs.04-Checks.{Checked, accepts, refuses, _>>_, Check, single, each, numberOf, check, try, inOrder, AllHold}
 use Rattle.definition.specs.11-Layout.{layoutChecks}
 use Rattle.definition.specs.13-Formulas.{Formula}
@@ -15,97 +18,142 @@ use Rattle.definition.specs.14-Book.{bookChecks}
 use Rattle.definition.specs.15-Records.{logChecks, recordChecks}
 use Rattle.definition.specs.17-Case.{Case, caseOf}
 use Rattle.definition.specs.18-Admission.{checksToLog, admissionChecks}
-use Rattle.definition.specs.22-Steps.{State, next, startState, citationChecks, shapeChecks, useChecks, fitChecks, stepChecks, checksOfSteps, wrongKind, wrongParty, wrongInstance, misfit, notFresh}
+use Rattle.definition.specs.21-Rules.{noInstance, rule, rules, ruleAt}
+use Rattle.definition.specs.22-Steps.{State, ruleOf, next, startState, citationChecks, shapeChecks, useChecks, misfitChecks, fitChecks, stepChecks, checksOfSteps, strayVariable, wrongKind, wrongParty, wrongInstance, misfit, notFresh}
 use Rattle.definition.specs.31-Outcome.{Finding, justified, nothing-owed, owes, owingChecks, closingChecks, roomChecks, endChecks, finalState, proofChecks, checksIfOwed, caseChecks, allChecks, found, finding, report, outcome}
-use Rattle.definition.specs.46-Requests.{without, isMisfitNumber, numberBefore, findingBefore, outcomeBefore, verdictBefore, asBefore, NumbersAlone}
+use Rattle.definition.specs.46-Requests.{without, isMisfitNumber, numberBefore, findingWithout, outcomeWithout, verdictBefore, asBefore, NumbersAlone, isStrayNumber, StraysAlone}
 
+kept-or-not : (c : Check) (xs ys zs : List Check) (b : Bool) → zs ≡ xs ++ ys → cond b zs (c ∷ zs) ≡ cond b xs (c ∷ xs) ++ ys
+kept-or-not c xs ys zs true e = e
+kept-or-not c xs ys zs false e = ap {B = List Check} (λ l. c ∷ l) e
+
+-- The checks of how a step fits, by number.
+isFit : ℕ → Bool
+isFit n = eqb n 27 || eqb n 24 || eqb n 25 || eqb n 26 || eqb n 18
+
+hasFit : List Check → Bool
+hasFit [] = false
+hasFit (c ∷ cs) = isFit (numberOf c) || hasFit cs
+
+-- What a request says of two runs, the first with its checks and the second without: it passes to one run after another, and a check that is of no fit is kept, and ends alike.
+record Request : Type 1 where
+  leftOut : ℕ → Bool
+  Alike : {A : Type 0} → Checked A → Checked A → Type 0
+  then : {A B : Type 0} {a b : Checked A} {x y : Checked B} → Alike a b → Alike x y → Alike (_>>_ a x) (_>>_ b y)
+  over : {A : Type 0} (x : A) → Alike (accepts x) (accepts x)
+  kept : (n : ℕ) → isFit n ≡ false → leftOut n ≡ false
+  other : (n p : ℕ) (b : Bool) → isFit n ≡ false → Alike (check n p b) (check n p b)
+
+module _ (q : Request) where
+  abbrev EndsAlike : List Check → Type 0
+  EndsAlike cs = q .Alike (inOrder cs) (inOrder (without (q .leftOut) cs))
+
+  without-append : (cs ds : List Check) → without (q .leftOut) (cs ++ ds) ≡ without (q .leftOut) cs ++ without (q .leftOut) ds
+  unfolding without
+  without-append [] ds = refl
+  without-append (c ∷ cs) ds = kept-or-not c (without (q .leftOut) cs) (without (q .leftOut) ds) (without (q .leftOut) (cs ++ ds)) (q .leftOut (numberOf c)) (without-append cs ds)
+
+  alike-both : (cs ds : List Check) → EndsAlike cs → EndsAlike ds → EndsAlike (cs ++ ds)
+  alike-both cs ds h k = rw (EndsAlike, without-append cs ds, in-order-append (without (q .leftOut) cs) (without (q .leftOut) ds), in-order-append cs ds) (q .then h k)
+
+  kept-try : (c : Check) → isFit (numberOf c) ≡ false → q .Alike (try c) (try c)
+  unfolding try
+  kept-try (single n p fault) e = q .other n p fault e
+  kept-try (each n count fault) e = rw (try-each n count fault) (q .other n _ _ e)
+
+  -- A list without any check of how a step fits.
+  alike-none : (cs : List Check) → hasFit cs ≡ false → EndsAlike cs
+  unfolding hasFit without inOrder
+  alike-none [] e = q .over tt
+  alike-none (c ∷ cs) e =
+      let h = or-false _ _ e in
+      rw (EndsAlike, q .kept (numberOf c) (h .0)) (q .then (kept-try c (h .0)) (alike-none cs (h .1)))
+
+  module _ (c : Case) (fits : (k : ℕ) → EndsAlike (fitChecks c k)) where
+    alike-step : (k : ℕ) (s : State) → EndsAlike (stepChecks c k s)
+    unfolding stepChecks shapeChecks citationChecks useChecks hasFit isFit
+    alike-step k s =
+        alike-both (shapeChecks c k s) (useChecks c k s) (alike-none (shapeChecks c k s) refl)
+        (alike-both (single 17 k _ ∷ []) _ (alike-none (single 17 k _ ∷ []) refl) (alike-both (fitChecks c k) (single 19 k (notFresh c s k) ∷ []) (fits k) (alike-none (single 19 k (notFresh c s k) ∷ []) refl)))
+
+    alike-steps : (left k : ℕ) (s : State) → EndsAlike (checksOfSteps c left k s)
+    unfolding checksOfSteps hasFit
+    alike-steps zero k s = alike-none [] refl
+    alike-steps (suc left) k s = alike-both (stepChecks c k s) _ (alike-step k s) (alike-steps left (k + 1) (next c k s))
+
+    alike-owed : (o : Option Formula) (room : ℕ) → EndsAlike (checksIfOwed o c room)
+    unfolding checksIfOwed proofChecks endChecks closingChecks roomChecks hasFit isFit
+    alike-owed none room = alike-none [] refl
+    alike-owed (some f) room = alike-both (checksOfSteps c (c .steps) 0 startState) _ (alike-steps (c .steps) 0 startState) (alike-none (endChecks c (finalState c) room) refl)
+
+  module _ (s : List ℕ) (fits : (k : ℕ) → EndsAlike (fitChecks (caseOf s) k)) where
+    alike-all : (room : ℕ) → EndsAlike (allChecks s room)
+    unfolding allChecks caseChecks owingChecks admissionChecks checksToLog layoutChecks bookChecks logChecks recordChecks hasFit isFit
+    alike-all room =
+        alike-both (admissionChecks s) (caseChecks (caseOf s) room) (alike-none (admissionChecks s) refl)
+        (alike-both (owingChecks (caseOf s)) (checksIfOwed (owes (caseOf s)) (caseOf s) room) (alike-none (owingChecks (caseOf s)) refl) (alike-owed (caseOf s) fits (owes (caseOf s)) room))
+
+    alike-finding : (room : ℕ) → q .Alike (finding s room) (findingWithout (q .leftOut) s room)
+    unfolding finding findingWithout
+    alike-finding room = q .then (alike-all room) (q .over (found (caseOf s)))
+
+-- Request 1: the number is another.
 before : {A : Type 0} → Checked A → Checked A
 before (accepts x) = accepts x
 before (refuses n p) = refuses (numberBefore n) p
-
--- Without the three the run ends alike.
-abbrev EndsAlike : List Check → Type 0
-EndsAlike cs = inOrder (without isMisfitNumber cs) ≡ before (inOrder cs)
 
 then-before : {A B : Type 0} (a : Checked A) (b : Checked B) → before (_>>_ a b) ≡ _>>_ (before a) (before b)
 unfolding before _>>_
 then-before (accepts x) b = refl
 then-before (refuses n p) b = refl
 
-kept-or-not : (c : Check) (xs ys zs : List Check) (b : Bool) → zs ≡ xs ++ ys → cond b zs (c ∷ zs) ≡ cond b xs (c ∷ xs) ++ ys
-kept-or-not c xs ys zs true e = e
-kept-or-not c xs ys zs false e = ap {B = List Check} (λ l. c ∷ l) e
+kept-misfit : (n : ℕ) → isFit n ≡ false → isMisfitNumber n ≡ false
+unfolding isFit isMisfitNumber
+kept-misfit n e =
+    let a = or-false _ (eqb n 18) e in
+    let b = or-false _ (eqb n 26) (a .0) in
+    let c = or-false _ (eqb n 25) (b .0) in
+    let d = or-false (eqb n 27) (eqb n 24) (c .0) in
+    rw (d .1, c .1, b .1)
 
-without-append : (cs ds : List Check) → without isMisfitNumber (cs ++ ds) ≡ without isMisfitNumber cs ++ without isMisfitNumber ds
-unfolding without
-without-append [] ds = refl
-without-append (c ∷ cs) ds = kept-or-not c (without isMisfitNumber cs) (without isMisfitNumber ds) (without isMisfitNumber (cs ++ ds)) (isMisfitNumber (numberOf c)) (without-append cs ds)
-
-alike-both : (cs ds : List Check) → EndsAlike cs → EndsAlike ds → EndsAlike (cs ++ ds)
-alike-both cs ds h k =
-    rw (without-append cs ds, in-order-append (without isMisfitNumber cs) (without isMisfitNumber ds), in-order-append cs ds, h, k)
-    (sym (then-before (inOrder cs) (inOrder ds)))
-
--- A check of another number.
-kept : (n p : ℕ) (b : Bool) → isMisfitNumber n ≡ false → before (check n p b) ≡ check n p b
+same-number : (n p : ℕ) (b : Bool) → isMisfitNumber n ≡ false → check n p b ≡ before (check n p b)
 unfolding check before numberBefore
-kept n p true e = rw e
-kept n p false e = refl
+same-number n p true e = rw e
+same-number n p false e = refl
 
-kept-try : (c : Check) → isMisfitNumber (numberOf c) ≡ false → before (try c) ≡ try c
-unfolding try
-kept-try (single n p fault) e = kept n p fault e
-kept-try (each n count fault) e = rw (try-each n count fault) (kept n _ _ e)
+request-1 : Request
+unfolding before
+request-1 =
+    record {
+      leftOut = isMisfitNumber;
+      Alike = λ a b. b ≡ before a;
+      then = λ {A} {B} {a} {b} {x} {y} h k. rw (h, k) (sym (then-before a x));
+      over = λ x. refl;
+      kept = kept-misfit;
+      other = λ n p b e. same-number n p b (kept-misfit n e);
+    }
 
-hasMisfit : List Check → Bool
-hasMisfit [] = false
-hasMisfit (c ∷ cs) = isMisfitNumber (numberOf c) || hasMisfit cs
-
--- A list without any of the three.
-alike-none : (cs : List Check) → hasMisfit cs ≡ false → EndsAlike cs
-unfolding hasMisfit without inOrder before
-alike-none [] e = refl
-alike-none (c ∷ cs) e =
-    let h = or-false _ _ e in
-    rw (h .0, alike-none cs (h .1), then-before (try c) (inOrder cs), kept-try c (h .0))
-
--- How a step fits: where one of the three fails, so does 18.
+-- Where one of the three fails, so does 18.
 fit-alike :
     (k : ℕ) (kind party inst misfit : Bool) → (misfit ≡ false → AllHold (single 24 k kind ∷ single 25 k party ∷ single 26 k inst ∷ [])) →
-    EndsAlike (single 24 k kind ∷ single 25 k party ∷ single 26 k inst ∷ single 18 k misfit ∷ [])
-unfolding without isMisfitNumber inOrder _>>_ try check before numberBefore
+    EndsAlike request-1 (single 24 k kind ∷ single 25 k party ∷ single 26 k inst ∷ single 18 k misfit ∷ [])
+unfolding request-1 without isMisfitNumber inOrder _>>_ try check before numberBefore
 fit-alike k kind party inst false h = let w = h refl in rw (w .0, w .1 .0, w .1 .1 .0)
 fit-alike k true party inst true h = refl
 fit-alike k false true inst true h = refl
 fit-alike k false false true true h = refl
 fit-alike k false false false true h = refl
 
-module _ (c : Case) where
-  alike-fit : (k : ℕ) → EndsAlike (fitChecks c k)
-  unfolding fitChecks
-  alike-fit k = fit-alike k (wrongKind c k) (wrongParty c k) (wrongInstance c k) (misfit c k) (λ e. let w = fit-checks c k .1 e in (w .0, (w .1 .0, (w .1 .1 .0, tt))))
+one-alike : (p : ℕ) (b : Bool) → EndsAlike request-1 (single 27 p b ∷ [])
+unfolding request-1 without isMisfitNumber inOrder _>>_ try check before numberBefore
+one-alike p true = refl
+one-alike p false = refl
 
-  alike-step : (k : ℕ) (s : State) → EndsAlike (stepChecks c k s)
-  unfolding stepChecks shapeChecks citationChecks useChecks hasMisfit isMisfitNumber
-  alike-step k s =
-      alike-both (shapeChecks c k s) (useChecks c k s) (alike-none (shapeChecks c k s) refl)
-      (alike-both (single 17 k _ ∷ []) _ (alike-none (single 17 k _ ∷ []) refl) (alike-both (fitChecks c k) (single 19 k (notFresh c s k) ∷ []) (alike-fit k) (alike-none (single 19 k (notFresh c s k) ∷ []) refl)))
-
-  alike-steps : (left k : ℕ) (s : State) → EndsAlike (checksOfSteps c left k s)
-  unfolding checksOfSteps hasMisfit
-  alike-steps zero k s = alike-none [] refl
-  alike-steps (suc left) k s = alike-both (stepChecks c k s) _ (alike-step k s) (alike-steps left (k + 1) (next c k s))
-
-  alike-owed : (o : Option Formula) (room : ℕ) → EndsAlike (checksIfOwed o c room)
-  unfolding checksIfOwed proofChecks endChecks closingChecks roomChecks hasMisfit isMisfitNumber
-  alike-owed none room = alike-none [] refl
-  alike-owed (some f) room = alike-both (checksOfSteps c (c .steps) 0 startState) _ (alike-steps (c .steps) 0 startState) (alike-none (endChecks c (finalState c) room) refl)
-
-alike-all : (s : List ℕ) (room : ℕ) → EndsAlike (allChecks s room)
-unfolding allChecks caseChecks owingChecks admissionChecks checksToLog layoutChecks bookChecks logChecks recordChecks hasMisfit isMisfitNumber
-alike-all s room =
-    alike-both (admissionChecks s) (caseChecks (caseOf s) room) (alike-none (admissionChecks s) refl)
-    (alike-both (owingChecks (caseOf s)) (checksIfOwed (owes (caseOf s)) (caseOf s) room) (alike-none (owingChecks (caseOf s)) refl) (alike-owed (caseOf s) (owes (caseOf s)) room))
+alike-fit : (c : Case) (k : ℕ) → EndsAlike request-1 (fitChecks c k)
+unfolding fitChecks misfitChecks
+alike-fit c k =
+    alike-both request-1 (single 27 (c .step k .stray) (strayVariable c k) ∷ []) (misfitChecks c k) (one-alike _ _)
+    (fit-alike k (wrongKind c k) (wrongParty c k) (wrongInstance c k) (misfit c k) (λ e. let w = fit-checks c k .1 e .1 in (w .0, (w .1 .0, (w .1 .1 .0, tt)))))
 
 reported : (x : Checked Finding) (room : List ℕ) → report (before x) room ≡ asBefore (report x room)
 unfolding before report verdictBefore asBefore
@@ -113,10 +161,76 @@ reported (accepts (justified ds rs)) room = refl
 reported (accepts nothing-owed) room = refl
 reported (refuses n p) room = refl
 
-finding-before : (s : List ℕ) (room : ℕ) → findingBefore s room ≡ before (finding s room)
-unfolding findingBefore finding before
-finding-before s room = rw (alike-all s room) (sym (then-before (inOrder (allChecks s room)) (accepts (found (caseOf s)))))
-
 pub numbers-alone : NumbersAlone
-unfolding outcomeBefore outcome
-numbers-alone s room = rw (finding-before s (length room)) (reported (finding s (length room)) room)
+unfolding request-1 outcomeWithout outcome
+numbers-alone s room = rw (alike-finding request-1 s (alike-fit (caseOf s)) (length room)) (reported (finding s (length room)) room)
+
+-- Request 2: both runs end alike, or 27 refuses, and without it another check of how the owner step fits does.
+record WasFit (c : Case) {A : Type 0} (a b : Checked A) : Type 0 where
+  row : ℕ
+  number : ℕ
+  step : ℕ
+  with : a ≡ refuses 27 row
+  without : b ≡ refuses number step
+  misfits : (number ≡ 24) ⊎ ((number ≡ 25) ⊎ (number ≡ 18))
+  owner : c .step step .rule ≡ 5
+  told : row ≡ c .step step .stray
+
+module _ (c : Case) where
+  abbrev SameOrFit : {A : Type 0} → Checked A → Checked A → Type 0
+  SameOrFit a b = (b ≡ a) ⊎ WasFit c a b
+
+  then-fit : {A B : Type 0} (a b : Checked A) (x y : Checked B) → SameOrFit a b → SameOrFit x y → SameOrFit (_>>_ a x) (_>>_ b y)
+  unfolding _>>_
+  then-fit (accepts v) b x y (inl e) h = rw e h
+  then-fit (refuses n p) b x y (inl e) h = inl (rw e)
+  then-fit a b x y (inr w) h = inr (record { row = w .row; number = w .number; step = w .step; with = rw (w .with); without = rw (w .without); misfits = w .misfits; owner = w .owner; told = w .told })
+
+  kept-stray : (n : ℕ) → isFit n ≡ false → isStrayNumber n ≡ false
+  unfolding isFit isStrayNumber
+  kept-stray n e = or-false _ (eqb n 24) (or-false _ (eqb n 25) (or-false _ (eqb n 26) (or-false _ (eqb n 18) e .0) .0) .0) .0
+
+  request-2 : Request
+  request-2 =
+      record {
+        leftOut = isStrayNumber;
+        Alike = λ a b. SameOrFit a b;
+        then = λ {A} {B} {a} {b} {x} {y} h k. then-fit a b x y h k;
+        over = λ x. inl refl;
+        kept = kept-stray;
+        other = λ n p b e. inl refl;
+      }
+
+  module _ (k : ℕ) where
+    some-misfit : (kind party : Bool) → (n : ℕ) × (inOrder (single 24 k kind ∷ single 25 k party ∷ single 26 k false ∷ single 18 k true ∷ []) ≡ refuses n k) × ((n ≡ 24) ⊎ ((n ≡ 25) ⊎ (n ≡ 18)))
+    unfolding inOrder _>>_ try check
+    some-misfit true party = (24, refl, inl refl)
+    some-misfit false true = (25, refl, inr (inl refl))
+    some-misfit false false = (18, refl, inr (inr refl))
+
+    -- rule 5 has no instance
+    owner-instance : c .step k .rule ≡ 5 → wrongInstance c k ≡ false
+    unfolding wrongInstance ruleOf ruleAt rules rule noInstance
+    owner-instance e = rw e
+
+    stray-misfits : strayVariable c k ≡ true → misfit c k ≡ true
+    unfolding fitChecks
+    stray-misfits e = never-false _ (λ fits. not-both e (fit-checks c k .1 fits .0))
+
+    stray-owner : strayVariable c k ≡ true → c .step k .rule ≡ 5
+    unfolding strayVariable
+    stray-owner e = eqb-true _ 5 (and-true (eqb (c .step k .rule) 5) _ e .0)
+
+    stray-fit : (b : Bool) → strayVariable c k ≡ b → EndsAlike request-2 (fitChecks c k)
+    unfolding request-2 fitChecks misfitChecks without isStrayNumber inOrder _>>_ try check
+    stray-fit false e = rw (EndsAlike, e) (inl refl)
+    stray-fit true e =
+        let w = some-misfit (wrongKind c k) (wrongParty c k) in
+        rw (EndsAlike, e, stray-misfits e, owner-instance (stray-owner e)) (inr (record { row = c .step k .stray; number = w .0; step = k; with = refl; without = w .1; misfits = w .2; owner = stray-owner e; told = refl }))
+
+pub strays-alone : StraysAlone
+unfolding request-2 outcomeWithout outcome report
+strays-alone s room =
+    ⊎-elim (λ e. inl (rw e))
+    (λ w. inr (record { row = w .row; number = w .number; step = w .step; with = rw (w .with); without = rw (w .without); misfits = w .misfits; owner = w .owner; told = w .told }))
+    (alike-finding (request-2 (caseOf s)) s (λ k. stray-fit (caseOf s) k (strayVariable (caseOf s) k) refl) (length room))

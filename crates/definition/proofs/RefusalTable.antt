@@ -1,22 +1,25 @@
 -- Demand 1, by groups: the first failing check is in a group before which all groups hold, and at a step before which all steps do. By taking the order of all checks apart.
 -- Assumes nothing.
 use Prim.Native.Nat.{ℕ, zero, suc, _+_, _≤_, _<_}
-use mathlib.Core.Path.{_≡_, refl, sym, _∙_}
-use mathlib.Core.Logic.{⊎-elim}
+use mathlib.Core.Path.{_≡_, refl}
+use mathlib.Core.Bool.{Bool, true, false}
+use mathlib.Core.Logic.{_⊎_, inl, inr, ⊎-elim}
 use mathlib.Core.Option.{Option, none, some}
 use mathlib.Core.List.{List, [], _∷_}
 use native.Mathlib.Nat.{eq-or-lt-of-le}
 use native.Mathlib.Omega.{arith}
 use lib.ListN.{length}
-use borrow.Author.Tests.{ltb-true, ltb-false, not-false}
+use lib.Dec.{eqb}
+use borrow.Author.Tests.{ltb-true, ltb-false, eqb-true, eq-eqb, not-false}
 use Rattle.definition.proofs.CheckLaws.{by-number, fault-either, fault-before, fault-behind, other-number}
+use Rattle.definition.proofs.Tests.{not-both}
 use Rattle.definition.proofs.Findings.{first-is-told}
 use Rattle.definition.proofs.States.{state-next, Fine, fine-steps, steps-fine}
 use Rattle.definition.specs.04-Checks.{Check, single, each, AllHold, FirstFault, here, later}
 use Rattle.definition.specs.13-Formulas.{Formula}
 use Rattle.definition.specs.17-Case.{Case, caseOf}
 use Rattle.definition.specs.18-Admission.{admissionChecks}
-use Rattle.definition.specs.22-Steps.{startState, next, citationChecks, fitChecks, shapeChecks, useChecks, stepChecks, checksOfSteps, stateAt}
+use Rattle.definition.specs.22-Steps.{startState, next, citationChecks, misfitChecks, fitChecks, shapeChecks, useChecks, stepChecks, checksOfSteps, stateAt}
 use Rattle.definition.specs.31-Outcome.{owes, isOwed, hasSteps, noProof, needlessProof, owingChecks, endChecks, finalState, proofChecks, checksIfOwed, caseChecks, allChecks}
 use Rattle.definition.specs.44-Demands.{InTable, in-admission, in-owing, in-step, in-end, RefusedByTable, StepIsPlace}
 
@@ -116,18 +119,30 @@ refused-by-table s room n p = (
   λ t. first-is-told s room n p .1 (table-fault s (length room) n p t),
 )
 
--- Each check of the list has the one place k.
-abbrev Placed : ℕ → List Check → Type 0
-Placed k [] = Unit {0}
-Placed k (single n p fault ∷ cs) = (p ≡ k) × Placed k cs
-Placed k (each n count fault ∷ cs) = ⊥
+-- Each check of the list has the place k, but for 27, which has r.
+abbrev PlaceOf : (stray : Bool) → (k r p : ℕ) → Type 0
+PlaceOf true k r p = p ≡ r
+PlaceOf false k r p = p ≡ k
 
-placed-fault : {cs : List Check} (k n p : ℕ) → Placed k cs → FirstFault cs n p → p ≡ k
-placed-fault k n p a (here {c = single m q fault} f) = sym (f .1) ∙ a .0
-placed-fault k n p a (here {c = each m count fault} f) = absurd a
-placed-fault k n p a (later {c = single m q fault} h f) = placed-fault k n p (a .1) f
-placed-fault k n p a (later {c = each m count fault} h f) = absurd a
+abbrev Placed : (k r : ℕ) → List Check → Type 0
+Placed k r [] = Unit {0}
+Placed k r (single n p fault ∷ cs) = PlaceOf (eqb n 27) k r p × Placed k r cs
+Placed k r (each n count fault ∷ cs) = ⊥
+
+module _ (k r n p : ℕ) where
+  abbrev AtPlace : Type 0
+  AtPlace = ((n ≡ 27) × (p ≡ r)) ⊎ ((n ≡ 27 → ⊥) × (p ≡ k))
+
+  at-place : (b : Bool) → eqb n 27 ≡ b → PlaceOf b k r p → AtPlace
+  at-place true e h = inl (eqb-true n 27 e, h)
+  at-place false e h = inr (λ same. not-both (eq-eqb n 27 same) e, h)
+
+  placed-fault : {cs : List Check} → Placed k r cs → FirstFault cs n p → AtPlace
+  placed-fault a (here {c = single m q fault} f) = at-place (eqb n 27) refl (rw (f .0, f .1) at (a .0))
+  placed-fault a (here {c = each m count fault} f) = absurd a
+  placed-fault a (later {c = single m q fault} h f) = placed-fault (a .1) f
+  placed-fault a (later {c = each m count fault} h f) = absurd a
 
 pub step-is-place : StepIsPlace
-unfolding stepChecks shapeChecks useChecks citationChecks fitChecks
-step-is-place c k n p t = placed-fault k n p (search)
+unfolding stepChecks shapeChecks useChecks citationChecks misfitChecks fitChecks
+step-is-place c k n p t = placed-fault k (c .step k .stray) n p (search)

@@ -18,7 +18,7 @@ use Rattle.definition.proofs.OccurrenceLaws.{policy-is, closed-is}
 use Rattle.definition.specs.15-Records.{badSpan}
 use Rattle.definition.specs.17-Case.{Case}
 use Rattle.definition.proofs.Spans as laws
-use Rattle.definition.specs.22-Steps.{State, opensIn, usedIn, Labels, ruleOf, premisesOf, mustBeAbsent, misshapen, isAnObligation, joined, isEachUse, isAdding, share, usedTwice, premiseFormulas, misfit, notFresh, citationChecks, fitChecks, shapeChecks, useChecks, stepChecks}
+use Rattle.definition.specs.22-Steps.{State, opensIn, usedIn, Labels, ruleOf, premisesOf, mustBeAbsent, misshapen, isAnObligation, joined, isEachUse, isAdding, share, usedTwice, premiseFormulas, misfit, notFresh, citationChecks, misfitChecks, fitChecks, shapeChecks, useChecks, stepChecks}
 use Rattle.definition.specs.42-Account.{SpansAdjoin}
 use Rattle.definition.proofs.States.{Fine}
 use Rattle.definition.proofs.PremiseLaws.{Usable, premises-usable, usable-premises}
@@ -49,6 +49,27 @@ premises-length c k =
     length-map (listed (c .premise) (c .step k .len) (c .step k .from)) (λ p. c .step p .formula)
     ∙ listed-length (c .premise) (c .step k .len) (c .step k .from)
 
+-- What check 12 tests of step k, one by one.
+pub record WellShaped (c : Case) (k : ℕ) : Type 0 where
+  pub number : ltb 15 (c .step k .rule) ≡ false
+  pub policy : isPolicy (c .step k .formula) ≡ true
+  pub shut : closed (c .step k .formula) ≡ true
+  pub span : spanFault c k ≡ false
+  pub least : ltb (c .step k .len) (ruleOf c k .least) ≡ false
+  pub most : ltb (ruleOf c k .most) (c .step k .len) ≡ false
+  pub argument : mustBeAbsent (ruleOf c k .names) && not (eqb (c .step k .argument) absent) ≡ false
+
+pub well-shaped : (c : Case) (k : ℕ) → misshapen c k ≡ false → WellShaped c k
+unfolding misshapen spanFault
+well-shaped c k e =
+    let argument = or-false _ (mustBeAbsent (ruleOf c k .names) && not (eqb (c .step k .argument) absent)) e in
+    let most = or-false _ (ltb (ruleOf c k .most) (c .step k .len)) (argument .0) in
+    let least = or-false _ (ltb (c .step k .len) (ruleOf c k .least)) (most .0) in
+    let span = or-false _ (spanFault c k) (least .0) in
+    let formula = or-false (ltb 15 (c .step k .rule)) (not (isPolicy (c .step k .formula) && closed (c .step k .formula))) (span .0) in
+    let both = and-true (isPolicy (c .step k .formula)) (closed (c .step k .formula)) (not-false _ (formula .1)) in
+    record { number = formula .0; policy = both .0; shut = both .1; span = span .1; least = least .1; most = most .1; argument = argument .1 }
+
 pub fine-shaped : (c : Case) (k : ℕ) (s : State) → Fine c k s → misshapen c k ≡ false
 unfolding stepChecks shapeChecks
 fine-shaped c k s f = f .0
@@ -60,26 +81,21 @@ pub record Parts (c : Case) (k : ℕ) (s : State) : Type 0 where
   pub once : SpentOnce c s k
 
 pub fine-parts : (c : Case) (k : ℕ) (s : State) → Fine c k s → Parts c k s
-unfolding stepChecks shapeChecks citationChecks useChecks fitChecks misshapen usedTwice misfit notFresh ruleOf premiseFormulas spanFault
+unfolding stepChecks shapeChecks citationChecks useChecks misfitChecks fitChecks usedTwice misfit notFresh ruleOf premiseFormulas spanFault
 fine-parts c k s f =
     let checks = stepChecks c k s in
-    let f6 = or-false _ (mustBeAbsent (ruleOf c k .names) && not (eqb (c .step k .argument) absent)) (by-number 12 checks f .0) in
-    let f5 = or-false _ (ltb (ruleOf c k .most) (c .step k .len)) (f6 .0) in
-    let f4 = or-false _ (ltb (c .step k .len) (ruleOf c k .least)) (f5 .0) in
-    let f3 = or-false _ (spanFault c k) (f4 .0) in
-    let f2 = or-false (ltb 15 (c .step k .rule)) (not (isPolicy (c .step k .formula) && closed (c .step k .formula))) (f3 .0) in
-    let pc = and-true (isPolicy (c .step k .formula)) (closed (c .step k .formula)) (not-false _ (f2 .1)) in
+    let w = well-shaped c k (by-number 12 checks f .0) in
     let u3 = or-false _ (isAdding (ruleOf c k .effect) && isEachUse c (c .step k .argument) && joined (opensIn s) (premisesOf c k) (c .step k .argument)) (by-number 17 checks f .0) in
     let u2 = or-false (isAnObligation (ruleOf c k .names) && eqb (c .obligation (c .step k .argument) .mark) each-use && s .discharged (c .step k .argument)) (share c (opensIn s) (premisesOf c k)) (u3 .0) in
     record {
       local = record {
-        number = omega (arith, ltb-false 15 (c .step k .rule) (f2 .0));
-        policy = policy-is _ .0 (pc .0);
-        closed = closed-is _ .0 (pc .1);
+        number = omega (arith, ltb-false 15 (c .step k .rule) (w .number));
+        policy = policy-is _ .0 (w .policy);
+        closed = closed-is _ .0 (w .shut);
         tests = record {
-          least = rw (premises-length c k) (f4 .1);
-          most = rw (premises-length c k) (f5 .1);
-          argument = f6 .1;
+          least = rw (premises-length c k) (w .least);
+          most = rw (premises-length c k) (w .most);
+          argument = w .argument;
           cites = both-hold (shapeChecks c k s) (useChecks c k s) f .0 .1 .1;
           added = u3 .1;
           fits = not-false _ (by-number 18 checks f .0);
@@ -88,12 +104,12 @@ fine-parts c k s f =
         split = u2 .1;
       };
       usable = premises-usable (usedIn s) k (premisesOf c k) (by-number 13 checks f .0);
-      span = f3 .1;
+      span = w .span;
       once = λ n m d. not-both (and-intro (and-intro n (eq-eqb _ each-use m)) d) (u2 .0);
     }
 
 pub parts-fine : (c : Case) (k : ℕ) (s : State) → Parts c k s → Fine c k s
-unfolding stepChecks shapeChecks citationChecks useChecks fitChecks misshapen usedTwice misfit notFresh ruleOf premiseFormulas spanFault
+unfolding stepChecks shapeChecks citationChecks useChecks misfitChecks fitChecks misshapen usedTwice misfit notFresh ruleOf premiseFormulas spanFault
 parts-fine c k s p =
     let l = p .local in
     let t = l .tests in

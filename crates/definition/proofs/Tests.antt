@@ -58,6 +58,10 @@ pub never-true : (a : Bool) → (a ≡ true → ⊥) → a ≡ false
 never-true true h = absurd (h refl)
 never-true false h = refl
 
+pub never-false : (a : Bool) → (a ≡ false → ⊥) → a ≡ true
+never-false true h = refl
+never-false false h = absurd (h refl)
+
 -- A test that says whether P says by `false` that P does not hold.
 pub refutes : {a : Bool} {P : Type 0} → ((a ≡ true) ↔ P) → ((a ≡ false) ↔ (P → ⊥))
 refutes {a} h = (λ e x. not-both (h .1 x) e, λ n. never-true a (λ e. n (h .0 e)))

@@ -1,16 +1,16 @@
 -- The trees of a book row by row, and what check 3 says of a row that is not bad: its tree from its fields, and its children. Assumes nothing.
 use Prim.Native.Nat.{ℕ, zero, suc, _≤_, _<_}
-use mathlib.Core.Path.{_≡_, refl, sym, _∙_}
+use mathlib.Core.Path.{_≡_, refl, sym, ap, _∙_}
 use mathlib.Core.Bool.{Bool, true, false, not, false≢true, _&&_}
 use mathlib.Core.Logic.{⊎-elim}
 use mathlib.Core.List.{List, [], _∷_}
 use native.Mathlib.Nat.{eq-or-lt-of-le, le-of-suc-le-suc}
 use native.Mathlib.Omega.{arith}
-use lib.ListN.{length, length-append, List·getD-append}
+use lib.ListN.{length, length-append, List·getD-append, List·getD-eq-default}
 use lib.Seq.{getD-at}
 use lib.Dec.{eqb, ltb, leb}
 use borrow.Author.Tests.{ltb-true, ltb-false, leb-true, eqb-true, not-false}
-use Rattle.definition.proofs.Tests.{and-true, or-false}
+use Rattle.definition.proofs.Tests.{and-true, or-false, not-both}
 use Rattle.definition.specs.01-Words.{absent}
 use Rattle.definition.specs.12-Terms.{agents, data-objects}
 use Rattle.definition.specs.13-Formulas.{Formula, predicate, owns, says, and, for-all, implies, after, communicates, creates, user-action, no-formula, each-use, once, isPolicy, isAction, nodes}
@@ -34,6 +34,17 @@ tree-below s (suc n) k h =
 pub tree-lower : (s : List ℕ) (k n : ℕ) → k < bookRows s → n < k → treeIn (trees s k) n ≡ treeIn (book s) n
 unfolding book
 tree-lower s k n inside below = tree-below s k n below ∙ sym (tree-below s (bookRows s) n (omega arith))
+
+-- A number beyond the book names no formula.
+pub beyond : (s : List ℕ) (k : ℕ) → bookRows s ≤ k → treeIn (book s) k ≡ no-formula
+unfolding book treeIn
+beyond s k le = List·getD-eq-default (trees s (bookRows s)) no-formula (omega (arith, trees-length s (bookRows s)))
+
+-- So a number whose tree passes a test that no-formula fails is one of the book.
+pub number-inside : (s : List ℕ) (k : ℕ) (is : Formula → Bool) → is no-formula ≡ false → is (treeIn (book s) k) ≡ true → k < bookRows s
+number-inside s k is none here =
+    let within : bookRows s ≤ k → ⊥ = λ le. not-both here (ap is (beyond s k le) ∙ none) in
+    omega (arith, within)
 
 -- The formula of number n is one for row k to hold.
 pub record Below (is : Formula → Bool) (l : List Formula) (k n : ℕ) : Type 0 where

@@ -1,15 +1,16 @@
--- The formula part of a case file: rows of eight bytes, their trees, and checks 3 and 4.
+-- The formula part of a case file: rows of eight bytes, their trees, checks 3 and 4, and which rows a tree has.
 use Prim.Native.Nat.{ℕ, zero, suc, _+_, _*_, _/_, _%_}
 use mathlib.Core.Bool.{Bool, true, false, cond, not, _&&_, _||_}
-use mathlib.Core.List.{List, [], _∷_, _++_}
+use mathlib.Core.List.{List, [], _∷_, _++_, map}
 use lib.ListN.{length, getD}
 use lib.Dec.{eqb, ltb, leb}
 use Rattle.definition.specs.01-Words.{word, absent}
-use Rattle.definition.specs.02-Ranges.{any}
+use Rattle.definition.specs.02-Ranges.{any, lowest}
+use Rattle.definition.specs.03-Lists.{isAmong, joinAll}
 use Rattle.definition.specs.04-Checks.{Check, single, each, Checked, inOrder}
 use Rattle.definition.specs.11-Layout.{rowBytes, formula-part, mostRecords}
 use Rattle.definition.specs.12-Terms.{Sort, agents, data-objects, other, classOf, hasSort, isTerm}
-use Rattle.definition.specs.13-Formulas.{Formula, predicate, owns, says, and, for-all, implies, after, communicates, creates, user-action, no-formula, each-use, once, isPolicy, isAction, nodes, bound-variable, has}
+use Rattle.definition.specs.13-Formulas.{Formula, predicate, owns, says, and, for-all, implies, after, communicates, creates, user-action, no-formula, each-use, once, isPolicy, isAction, nodes, bound-variable, data-variable, isSought, has}
 
 -- "Kind (one byte), code (one byte), fields X, Y, Z."
 pub record Row : Type 0 where
@@ -165,7 +166,44 @@ bookChecks s =
 unfoldable pub bookAdmission : List ℕ → Checked (Unit {0})
 bookAdmission s = inOrder (single 2 formula-part (isMisshapen s) ∷ bookChecks s)
 
+-- The lower rows that a row holds, by its kind, 0 to 10.
+unfoldable pub childrenOf : Row → List ℕ
+childrenOf r =
+    getD
+    ([]
+    ∷ []
+    ∷ (r .y ∷ [])
+    ∷ (r .x ∷ r .y ∷ [])
+    ∷ (r .x ∷ [])
+    ∷ (r .x ∷ r .y ∷ [])
+    ∷ (r .x ∷ r .y ∷ [])
+    ∷ (r .x ∷ r .y ∷ [])
+    ∷ (r .y ∷ [])
+    ∷ []
+    ∷ []
+    ∷ [])
+    (r .kind) []
+
+-- The rows of row k's tree, its own included, and at most so many deep.
+unfoldable pub rowsWithin : List ℕ → (depth k : ℕ) → List ℕ
+rowsWithin s zero k = []
+rowsWithin s (suc depth) k = k ∷ joinAll (map (rowsWithin s depth) (childrenOf (rowAt s k)))
+
+-- All of them: children have lower numbers, so a tree is no deeper than the book is long.
+unfoldable pub rowsOf : List ℕ → ℕ → List ℕ
+rowsOf s k = rowsWithin s (bookRows s) k
+
+-- Document 02, request 2: a row that "itself holds" a data variable, in one of its fields. To have such a row below it is not to hold one.
+unfoldable pub holdsVariable : Row → Bool
+holdsVariable r = isSought data-variable 0 (r .x) || isSought data-variable 0 (r .y) || isSought data-variable 0 (r .z)
+
+-- "The lowest row reached from the formula that itself holds one"; where there is none, the number of rows.
+unfoldable pub strayRow : List ℕ → ℕ → ℕ
+strayRow s k =
+    let rows = rowsOf s k in
+    lowest (λ j. isAmong j rows && holdsVariable (rowAt s j)) (bookRows s) 0
+
 -- What an evaluation unfolds of this file.
 unfoldable pub evaluatedBook : Unit {0}
-unfolding rowAt bookRows sortOfCode treeIn treeOf grow trees book allAbsent termsFirst inPlace policyBelow actionBelow bindsOwnSort agentAndData agentPolicyAgent twoPolicies sortAndBody actionAndPolicy fitTable fieldsFit badFormula sameRow repeatsLower isMisshapen bookChecks bookAdmission
+unfolding rowAt bookRows sortOfCode treeIn treeOf grow trees book allAbsent termsFirst inPlace policyBelow actionBelow bindsOwnSort agentAndData agentPolicyAgent twoPolicies sortAndBody actionAndPolicy fitTable fieldsFit badFormula sameRow repeatsLower isMisshapen bookChecks bookAdmission childrenOf rowsWithin rowsOf holdsVariable strayRow
 evaluatedBook = tt

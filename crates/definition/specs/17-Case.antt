@@ -5,9 +5,9 @@ use mathlib.Core.Option.{Option, none, some}
 use mathlib.Core.List.{List}
 use lib.Dec.{eqb}
 use Rattle.definition.specs.01-Words.{absent}
-use Rattle.definition.specs.11-Layout.{condition-part, obligation-part, label-part, step-part, premise-part, count, agentOf, actionOf}
+use Rattle.definition.specs.11-Layout.{condition-part, obligation-part, label-part, step-part, premise-part, formula-part, part, count, agentOf, actionOf}
 use Rattle.definition.specs.13-Formulas.{Formula}
-use Rattle.definition.specs.14-Book.{treeIn}
+use Rattle.definition.specs.14-Book.{treeIn, strayRow}
 use Rattle.definition.specs.15-Records.{logOf, rowsIn, formulas, conditionFormula, obligationMark, obligationAction, labelMark, labelFormula, stepRule, stepFormula, stepArgument, stepFrom, stepCount, premiseStep}
 use Rattle.definition.specs.16-Views.{RowView, rowView}
 
@@ -16,9 +16,11 @@ pub record Marked : Type 0 where
   pub mark : ℕ
   pub formula : Formula
 
+-- A step. `stray` is the lowest row of its formula's tree that itself holds a data variable, or the number of rows: the place of check 27, and the one thing in a case that depends on how formulas are numbered.
 pub record Step : Type 0 where
   pub rule : ℕ
   pub formula : Formula
+  pub stray : ℕ
   pub argument : ℕ
   pub from : ℕ
   pub len : ℕ
@@ -62,6 +64,7 @@ caseOf s =
           λ k. record {
             rule = stepRule s k;
             formula = treeIn l (stepFormula s k);
+            stray = strayRow (part s formula-part) (stepFormula s k);
             argument = stepArgument s k;
             from = stepFrom s k;
             len = stepCount s k;

@@ -1,4 +1,4 @@
--- One step of a justification: checks 12 to 19 and 24 to 26 in their order, and what the step then changes; and the checks of all steps.
+-- One step of a justification: checks 12 to 19 and 24 to 27 in their order, and what the step then changes; and the checks of all steps.
 use Prim.Native.Nat.{ℕ, zero, suc, _+_}
 use mathlib.Core.Bool.{Bool, true, false, not, _&&_, _||_}
 use mathlib.Core.Option.{Option, none, some}
@@ -7,7 +7,7 @@ use lib.Dec.{eqb, ltb}
 use Rattle.definition.specs.01-Words.{absent}
 use Rattle.definition.specs.02-Ranges.{any, listed, update}
 use Rattle.definition.specs.04-Checks.{Check, single}
-use Rattle.definition.specs.13-Formulas.{Formula, each-use, isPolicy, closed, this-term, has}
+use Rattle.definition.specs.13-Formulas.{Formula, each-use, isPolicy, closed, this-term, data-variable, has}
 use Rattle.definition.specs.15-Records.{badSpan}
 use Rattle.definition.specs.16-Views.{RowView, hidden, struck, shows}
 use Rattle.definition.specs.17-Case.{Case}
@@ -156,6 +156,10 @@ usedTwice c s r a ps =
     || share c (opensIn s) ps
     || (isAdding (r .effect) && isEachUse c a && joined (opensIn s) ps a)
 
+-- Document 02, request 2. Check 27: "data variable under an owner step". "Under" is in the step's own formula as a whole.
+unfoldable pub strayVariable : Case → ℕ → Bool
+strayVariable c k = eqb (c .step k .rule) 5 && has data-variable 0 (c .step k .formula)
+
 -- The formulas of the premises of step k.
 unfoldable pub premiseFormulas : Case → ℕ → List Formula
 premiseFormulas c k = map (λ p. c .step p .formula) (premisesOf c k)
@@ -220,14 +224,18 @@ citationChecks c n a k =
     ∷ single 14 k (citesStruck c n a)
     ∷ []
 
--- Whether step k fits its rule: 24, 25 and 26 are "tried in that order just before 18" (document 02).
-unfoldable pub fitChecks : Case → ℕ → List Check
-fitChecks c k =
+-- 24, 25 and 26 are "tried in that order just before 18" (document 02).
+unfoldable pub misfitChecks : Case → ℕ → List Check
+misfitChecks c k =
     single 24 k (wrongKind c k)
     ∷ single 25 k (wrongParty c k)
     ∷ single 26 k (wrongInstance c k)
     ∷ single 18 k (misfit c k)
     ∷ []
+
+-- Whether step k fits its rule. 27, "just before 24", has a row of the book as its place, every other check of a step has the step.
+unfoldable pub fitChecks : Case → ℕ → List Check
+fitChecks c k = single 27 (c .step k .stray) (strayVariable c k) ∷ misfitChecks c k
 
 -- Checks 12 to 16 of step k: it is well made, and all that it rests on is there.
 unfoldable pub shapeChecks : Case → ℕ → State → List Check
@@ -236,14 +244,14 @@ shapeChecks c k s =
     ∷ single 13 k (badPremises (usedIn s) k (premisesOf c k))
     ∷ citationChecks c (ruleOf c k .names) (c .step k .argument) k
 
--- Check 17; 24, 25, 26 and 18; check 19: step k uses what it rests on as its rule allows.
+-- Check 17; 27, 24, 25, 26 and 18; check 19: step k uses what it rests on as its rule allows.
 unfoldable pub useChecks : Case → ℕ → State → List Check
 useChecks c k s =
     single 17 k (usedTwice c s (ruleOf c k) (c .step k .argument) (premisesOf c k))
     ∷ fitChecks c k
     ++ (single 19 k (notFresh c s k) ∷ [])
 
--- Step k "through 12 to 19 by number", 24 to 26 put in before 18, in the state that the steps before it have left.
+-- Step k "through 12 to 19 by number", 27 and 24 to 26 put in before 18, in the state that the steps before it have left.
 unfoldable pub stepChecks : Case → ℕ → State → List Check
 stepChecks c k s = shapeChecks c k s ++ useChecks c k s
 
@@ -259,5 +267,5 @@ stateAt c (suc k) = next c k (stateAt c k)
 
 -- What an evaluation unfolds of this file.
 unfoldable pub evaluatedSteps : Unit {0}
-unfolding startState ruleOf premisesOf mustBeAbsent misshapen badPremises isNone citesAbsent citesNothing isARow isAnObligation isHidden isStruck citesHidden citesStruck joined isEachUse share isAdding usedTwice premiseFormulas wrongKind wrongParty wrongInstance misfit notFresh leaves markAll markIf next citationChecks fitChecks shapeChecks useChecks stepChecks checksOfSteps stateAt
+unfolding startState ruleOf premisesOf mustBeAbsent misshapen badPremises isNone citesAbsent citesNothing isARow isAnObligation isHidden isStruck citesHidden citesStruck joined isEachUse share isAdding usedTwice strayVariable premiseFormulas wrongKind wrongParty wrongInstance misfit notFresh leaves markAll markIf next citationChecks misfitChecks fitChecks shapeChecks useChecks stepChecks checksOfSteps stateAt
 evaluatedSteps = tt

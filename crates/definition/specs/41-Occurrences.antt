@@ -1,9 +1,12 @@
--- What stands in a formula, said without tests.
-use Prim.Native.Nat.{ℕ, _+_, _≤_}
+-- What stands in a formula, and in which rows of its book, said without tests. Which fields of a row are rows is `childrenOf` of `14-Book`.
+use Prim.Native.Nat.{ℕ, _+_, _≤_, _<_}
 use mathlib.Core.Path.{_≡_}
 use mathlib.Core.Logic.{_⊎_}
+use mathlib.Core.List.{List}
+use Rattle.definition.specs.03-Lists.{Among}
 use Rattle.definition.specs.12-Terms.{Sort, data-objects, classOf, object, parameter, variable}
 use Rattle.definition.specs.13-Formulas.{Formula, predicate, owns, says, and, for-all, implies, after, communicates, creates, user-action, no-formula}
+use Rattle.definition.specs.14-Book.{Row, rowAt, bookRows, childrenOf}
 
 -- Some term of the formula has the property P; P is told how many for-alls stand around the term, d of them around the formula itself.
 abbrev pub Somewhere : (P : ℕ → ℕ → Type 0) → ℕ → Formula → Type 0
@@ -30,9 +33,12 @@ FreeVariable d t = (σ : Sort) × (n : ℕ) × (classOf t ≡ variable σ n) × 
 abbrev pub Closed : Formula → Type 0
 Closed f = Somewhere FreeVariable 0 f → ⊥
 
--- A data variable, bound or free, stands in the formula.
+-- The term is a data variable, bound or free; one stands in the formula.
+abbrev pub DataVariable : ℕ → Type 0
+DataVariable t = (n : ℕ) × (classOf t ≡ variable data-objects n)
+
 abbrev pub MentionsDataVariable : Formula → Type 0
-MentionsDataVariable f = Somewhere (λ d t. (n : ℕ) × (classOf t ≡ variable data-objects n)) 0 f
+MentionsDataVariable f = Somewhere (λ d t. DataVariable t) 0 f
 
 -- An object or a parameter of the sort.
 abbrev pub Instance : Sort → ℕ → Type 0
@@ -50,3 +56,23 @@ Policy (communicates x f z) = ⊥
 Policy (creates x y) = ⊥
 Policy (user-action c x y z) = ⊥
 Policy no-formula = ⊥
+
+-- Row j is reached from row k of the book s: it is row k, or it is reached from a lower row that row k holds.
+pub data Reaches (s : List ℕ) : (k j : ℕ) → Type 0 where
+  itself : {k : ℕ} → Reaches s k k
+  below : {k i j : ℕ} → Among i (childrenOf (rowAt s k)) → Reaches s i j → Reaches s k j
+
+-- The row itself holds a data variable, in one of its fields.
+abbrev pub Holds : Row → Type 0
+Holds r = DataVariable (r .x) ⊎ (DataVariable (r .y) ⊎ DataVariable (r .z))
+
+-- Row q is reached from row k, and itself holds one.
+abbrev pub Stray : List ℕ → (k q : ℕ) → Type 0
+Stray s k q = Reaches s k q × Holds (rowAt s q)
+
+-- Row p is the lowest of these.
+pub record StrayIs (s : List ℕ) (k p : ℕ) : Type 0 where
+  pub inside : p < bookRows s
+  pub holds : Holds (rowAt s p)
+  pub reached : Reaches s k p
+  pub lowest : (q : ℕ) → q < p → Reaches s k q → Holds (rowAt s q) → ⊥

@@ -60,9 +60,9 @@ pub data InTable (s : List ℕ) (room : ℕ) : (number place : ℕ) → Type 0 w
 abbrev pub RefusedByTable : Type 0
 RefusedByTable = (s room : List ℕ) (n p : ℕ) → (outcome s room .verdict ≡ refused n p) ↔ InTable s (length room) n p
 
--- The place of a check of a step is the step.
+-- The place of a check of a step is the step, but for 27, whose place is a row of the book.
 abbrev pub StepIsPlace : Type 0
-StepIsPlace = (c : Case) (k n p : ℕ) (t : State) → FirstFault (stepChecks c k t) n p → p ≡ k
+StepIsPlace = (c : Case) (k n p : ℕ) (t : State) → FirstFault (stepChecks c k t) n p → ((n ≡ 27) × (p ≡ c .step k .stray)) ⊎ ((n ≡ 27 → ⊥) × (p ≡ k))
 
 -- Demand 2: a justification passes exactly if it follows the published rules; a pass lists obligations discharged and rows cited, each once, ascending;
 -- no each-use obligation is discharged twice.

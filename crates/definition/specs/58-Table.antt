@@ -13,7 +13,7 @@ use Rattle.definition.specs.18-Admission.{admissionChecks}
 use Rattle.definition.specs.19-Rewriting.{laidOut}
 use Rattle.definition.specs.22-Steps.{State, stepChecks}
 use Rattle.definition.specs.31-Outcome.{passed, refused, owingChecks, endChecks}
-use Rattle.definition.specs.46-Requests.{outcomeBefore, evaluatedRequests}
+use Rattle.definition.specs.46-Requests.{outcomeWithout, isMisfitNumber, isStrayNumber, evaluatedRequests}
 use Rattle.definition.specs.51-Files.{fileOf, formulaRow, predicateRow, ownsRow, saysRow, andRow, impliesRow, communicatesRow, createsRow, userActionRow, step}
 use Rattle.definition.specs.53-Desk.{DeskCase, computed, expected, unchanged, writes, grantWith, seenBy, ownerStep, grant, built}
 
@@ -230,6 +230,81 @@ misfitCases =
 unfoldable pub beforeCases : List (List ℕ)
 beforeCases = said 10 (2 ∷ 0 ∷ []) 1 ∷ said 3 (4 ∷ []) 0 ∷ taken 15 (7 ∷ []) 8 6 ∷ []
 
+-- Request 2. Formulas with data variables, for steps of rule 5 from formula 2, "0 owns d0", and of another rule.
+unfoldable pub stray : (rule : ℕ) → (premises : List ℕ) → (formula : ℕ) → List ℕ
+stray rule fs formula =
+    following
+    -- 0 p, 1 the action, 2 "0 owns d0", 3 "0 creates y", 4 q(y), 5 q(y), where 3 is done at each use
+    (predicateRow 1 absent absent absent ∷ userActionRow 7 0 absent absent ∷ ownsRow 0 16384 ∷ createsRow 0 40968 ∷ predicateRow 2 40968 absent absent ∷ formulaRow 6 0 3 4 absent
+    -- 6 "for all data y. 5", 7 "0 says 6 to 1", 8 "for all data y. q(y)", 9 "0 says 8 to 1", 10 "8 and 8"
+    ∷ formulaRow 4 1 5 absent absent ∷ saysRow 0 6 1 ∷ formulaRow 4 1 4 absent absent ∷ saysRow 0 8 1 ∷ andRow 8 8
+    -- 11 r(d0, y), 12 "r(d0, y) and q(y)", 13 "for all data y. 12", 14 "0 says 13 to 1"
+    ∷ predicateRow 3 16384 40968 absent ∷ andRow 11 4 ∷ formulaRow 4 1 12 absent absent ∷ saysRow 0 13 1
+    -- 15 t(d0), 16 "for all data y. t(d0)", 17 "0 says 16 to 1", 18 u(d0, x), 19 "for all agents x. u(d0, x)", 20 "0 says 19 to 1", 21 "1 communicates q(y) to 0"
+    ∷ predicateRow 4 16384 absent absent ∷ formulaRow 4 1 15 absent absent ∷ saysRow 0 16 1 ∷ predicateRow 5 16384 40960 absent ∷ formulaRow 4 0 18 absent absent ∷ saysRow 0 19 1 ∷ communicatesRow 1 4 0
+    -- 22 p, where 21 is done once, 23 "for all data y. 22", 24 "1 says 23 to 0", 25 "2 owns d0"
+    ∷ formulaRow 7 0 21 0 absent ∷ formulaRow 4 1 22 absent absent ∷ saysRow 1 23 0 ∷ ownsRow 2 16384 ∷ [])
+    1 rule fs formula absent
+
+-- These rows from 3 on, behind the same first three, and an owner step over "0 says for all data y. F to .." with the last of them as F.
+unfoldable pub strayIn : (rows : List (List ℕ)) → (to : ℕ) → List ℕ
+strayIn rows to =
+    let last = 2 + length rows in
+    following
+    (predicateRow 1 absent absent absent ∷ userActionRow 7 0 absent absent ∷ ownsRow 0 16384 ∷ rows ++ formulaRow 4 1 last absent absent ∷ saysRow 0 (last + 1) to ∷ [])
+    1 5 (2 ∷ []) (last + 2) absent
+
+-- Two owner steps: the first tells row 5, the second would tell row 3. 4 is "for all data y. q(y)", 6 "for all data y. r(y)".
+unfoldable pub twoStrays : List ℕ
+twoStrays =
+    supposing (0 ∷ 1 ∷ []) 0 (userActionRow 7 0 absent absent ∷ ownsRow 0 16384 ∷ predicateRow 1 absent absent absent ∷ predicateRow 2 40968 absent absent ∷ formulaRow 4 1 3 absent absent ∷ predicateRow 3 40968 absent absent ∷ formulaRow 4 1 5 absent absent ∷ [])
+    (step 0 1 0 0 0 ∷ step 5 6 absent 0 1 ∷ step 0 1 0 1 0 ∷ step 5 4 absent 1 1 ∷ []) (0 ∷ 2 ∷ [])
+
+-- An owner step over such a formula, 4, from two premises that leave the same each-use label open.
+unfoldable pub sharedStray : List ℕ
+sharedStray =
+    supposing (0 ∷ 2 ∷ 1 ∷ 0 ∷ []) 0 (userActionRow 7 0 absent absent ∷ ownsRow 0 16384 ∷ formulaRow 6 0 0 1 absent ∷ predicateRow 2 40968 absent absent ∷ formulaRow 4 1 3 absent absent ∷ [])
+    (step 0 2 0 0 0 ∷ step 13 1 1 0 1 ∷ step 0 2 0 1 0 ∷ step 13 1 1 1 1 ∷ step 5 4 absent 2 2 ∷ []) (0 ∷ 2 ∷ 1 ∷ 3 ∷ [])
+
+unfoldable pub strayCases : List DeskCase
+strayCases =
+    -- one row; inside an action, which is lower; the lowest of two, met last
+    unchanged (stray 5 (2 ∷ []) 9) (refused 27 4)
+    ∷ unchanged (stray 5 (2 ∷ []) 7) (refused 27 3)
+    ∷ unchanged (stray 5 (2 ∷ []) 14) (refused 27 4)
+    -- in the policy that an action of the formula communicates; there the formula is another agent's
+    ∷ unchanged (stray 5 (2 ∷ []) 24) (refused 27 4)
+    -- the formula is no "says"; it is before 24 and before 25
+    ∷ unchanged (stray 5 (2 ∷ []) 8) (refused 27 4)
+    ∷ unchanged (stray 5 (0 ∷ []) 14) (refused 27 4)
+    ∷ unchanged (stray 5 (2 ∷ 25 ∷ []) 9) (refused 27 4)
+    -- no data variable: a for-all over data that binds nothing, an agent variable; then the labels are open at the end
+    ∷ unchanged (stray 5 (2 ∷ []) 17) (refused 21 0)
+    ∷ unchanged (stray 5 (2 ∷ []) 20) (refused 21 0)
+    -- in a premise alone, and under another rule
+    ∷ unchanged (stray 5 (8 ∷ []) 17) (refused 24 1)
+    ∷ unchanged (stray 6 (8 ∷ 8 ∷ []) 10) (refused 21 0)
+    ∷ unchanged (stray 6 (8 ∷ 8 ∷ []) 9) (refused 18 2)
+    -- in field Z, under seven for-alls more; in an "owns", said to agent 3, which is not row 3; in a user action
+    ∷ unchanged (strayIn (predicateRow 2 16384 16385 40975 ∷ map (λ k. formulaRow 4 1 k absent absent) (listed (λ k. k) 7 3)) 1) (refused 27 3)
+    ∷ unchanged (strayIn (predicateRow 2 40968 absent absent ∷ ownsRow 0 40968 ∷ []) 3) (refused 27 4)
+    ∷ unchanged (strayIn (userActionRow 8 0 40968 absent ∷ formulaRow 6 0 3 0 absent ∷ []) 1) (refused 27 3)
+    -- behind and before a lower formula with a data parameter, an agent variable and a data object
+    ∷ unchanged (strayIn (predicateRow 3 32800 40960 16384 ∷ formulaRow 4 0 3 absent absent ∷ predicateRow 4 40968 absent absent ∷ impliesRow 4 5 ∷ []) 1) (refused 27 5)
+    ∷ unchanged (strayIn (predicateRow 3 32800 40960 16384 ∷ formulaRow 4 0 3 absent absent ∷ predicateRow 4 40968 absent absent ∷ impliesRow 5 4 ∷ []) 1) (refused 27 5)
+    -- the first formula of an "and", and the policy of either duty
+    ∷ unchanged (strayIn (predicateRow 4 40968 absent absent ∷ andRow 3 0 ∷ []) 1) (refused 27 3)
+    ∷ unchanged (strayIn (predicateRow 4 40968 absent absent ∷ formulaRow 6 0 1 3 absent ∷ []) 1) (refused 27 3)
+    ∷ unchanged (strayIn (predicateRow 4 40968 absent absent ∷ formulaRow 7 0 1 3 absent ∷ []) 1) (refused 27 3)
+    -- of the first step at fault, and after 17
+    ∷ unchanged twoStrays (refused 27 5)
+    ∷ unchanged sharedStray (refused 17 4)
+    ∷ []
+
+-- As it was before the request: at the step, by 18 and by 24.
+unfoldable pub beforeStrays : List (List ℕ)
+beforeStrays = stray 5 (2 ∷ []) 9 ∷ stray 5 (0 ∷ []) 14 ∷ []
+
 -- So many records of these two numbers.
 unfoldable pub pairsOf : (count first second : ℕ) → List ℕ
 pairsOf count first second = joinAll (replicate count (first ∷ second ∷ []))
@@ -240,7 +315,7 @@ observerAlone = laidOut 0 0 ([] ∷ [] ∷ words (0 ∷ []) ∷ [] ∷ [] ∷ []
 
 -- What builds these files, for an evaluation to unfold.
 unfoldable pub builtTable : Unit {0}
-unfolding built grantByte grantSteps grantOf grantAnd supposing supposedParameter supposedOwed laterPremise twoBinders supposeAll following said taken
+unfolding built grantByte grantSteps grantOf grantAnd supposing supposedParameter supposedOwed laterPremise twoBinders supposeAll following said taken stray strayIn twoStrays sharedStray
 builtTable = tt
 
 pub table-claim : map computed tableCases ≡ map expected tableCases
@@ -255,15 +330,23 @@ pub misfit-claim : map computed misfitCases ≡ map expected misfitCases
 unfolding builtTable misfitCases
 misfit-claim = refl
 
-pub before-claim : map (λ s. outcomeBefore s [] .verdict) beforeCases ≡ refused 18 2 ∷ refused 18 1 ∷ refused 18 1 ∷ []
+pub stray-claim : map computed strayCases ≡ map expected strayCases
+unfolding builtTable strayCases
+stray-claim = refl
+
+pub before-claim : map (λ s. outcomeWithout isMisfitNumber s [] .verdict) beforeCases ≡ refused 18 2 ∷ refused 18 1 ∷ refused 18 1 ∷ []
 unfolding builtTable beforeCases evaluatedRequests
 before-claim = refl
+
+pub before-strays-claim : map (λ s. outcomeWithout isStrayNumber s [] .verdict) beforeStrays ≡ refused 18 1 ∷ refused 24 1 ∷ []
+unfolding builtTable beforeStrays evaluatedRequests
+before-strays-claim = refl
 
 pub binder-claim : map computed binderCases ≡ map expected binderCases
 unfolding builtTable binderCases
 binder-claim = refl
 
--- "By number": the numbers of each group's checks, in its order. The second 14 is the one exception, for a struck row. Document 02 puts 24, 25 and 26 before 18.
+-- "By number": the numbers of each group's checks, in its order. The second 14 is the one exception, for a struck row. Document 02 puts 27, 24, 25 and 26 before 18.
 pub admission-numbers : (s : List ℕ) → map numberOf (admissionChecks s) ≡ 1 ∷ 2 ∷ 3 ∷ 4 ∷ 5 ∷ 6 ∷ 7 ∷ 8 ∷ 9 ∷ []
 unfolding builtTable
 admission-numbers s = refl
@@ -272,7 +355,7 @@ pub owing-numbers : (c : Case) → map numberOf (owingChecks c) ≡ 10 ∷ 11 �
 unfolding builtTable
 owing-numbers c = refl
 
-pub step-numbers : (c : Case) (k : ℕ) (t : State) → map numberOf (stepChecks c k t) ≡ 12 ∷ 13 ∷ 14 ∷ 15 ∷ 16 ∷ 14 ∷ 17 ∷ 24 ∷ 25 ∷ 26 ∷ 18 ∷ 19 ∷ []
+pub step-numbers : (c : Case) (k : ℕ) (t : State) → map numberOf (stepChecks c k t) ≡ 12 ∷ 13 ∷ 14 ∷ 15 ∷ 16 ∷ 14 ∷ 17 ∷ 27 ∷ 24 ∷ 25 ∷ 26 ∷ 18 ∷ 19 ∷ []
 unfolding builtTable
 step-numbers c k t = refl
 

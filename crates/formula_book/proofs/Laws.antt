@@ -1,9 +1,9 @@
 -- What callers of this library may cite, and they cite this file alone: what `admit`'s answer says of the rows, a row's fields from its tree and the tree from its fields, one number for a tree, and what each answer about a formula says of it. Assumes nothing.
 use Prim.Native.Nat.{ℕ, _-_, _≤_, _<_, _%_}
-use mathlib.Core.Path.{_≡_, refl, ap, _∙_}
+use mathlib.Core.Path.{_≡_, refl, ap}
 use mathlib.Core.Bool.{Bool, true, false, cond, not}
 use mathlib.Core.List.{List, _∷_}
-use lib.ListN.{length, List·getD-eq-default}
+use lib.ListN.{length}
 use native.Mathlib.Omega.{arith}
 use lib.Dec.{eqb, ltb, leb}
 use borrow.Author.Tests.{ltb-false, eqb-true, eq-eqb}
@@ -11,20 +11,22 @@ use Rattle.definition.proofs.CheckLaws.{all-hold, by-number}
 use Rattle.definition.specs.01-Words.{absent}
 use Rattle.definition.specs.04-Checks.{single, AllHold}
 use Rattle.definition.specs.11-Layout.{formula-part, rowBytes, mostRecords}
-use Rattle.definition.proofs.Tests.{or-false, not-both, one-answer}
+use Rattle.definition.proofs.Tests.{or-false, one-answer}
 use Rattle.definition.specs.12-Terms.{agents, data-objects, object, parameter, variable, absent-term, no-term, classOf, isObject, sameSort}
-use Rattle.definition.specs.13-Formulas.{Formula, no-formula, same, isPolicy, isAction, isPredicate}
+use Rattle.definition.specs.13-Formulas.{same, isPolicy, isAction, isPredicate}
 use Rattle.definition.specs.14-Book.{Row, rowAt, bookRows, treeIn, treeOf, trees, book, badFormula, sameRow, repeatsLower, isMisshapen, bookChecks, bookAdmission}
 use Rattle.formula_book.specs.GoodRows.{GoodRow}
 use Rattle.formula_book.specs.AdmittedBooks.{AdmittedBook}
 use Rattle.definition.proofs.OneNumber.{Has, fields, one-number}
-use Rattle.definition.proofs.Trees.{Shape, trees-length, row-shape}
+use Rattle.definition.proofs.Trees.{Shape, row-shape}
 use Rattle.definition.proofs.TreeEquality.{same-is}
 use Rattle.formula_rows.proofs.RowKinds.{shape-policy, shape-action, shape-predicate}
 use Rattle.formula_book.proofs.RowComparison.{same-as-row}
 pub use Rattle.formula_book.proofs.RowComparison.{Proper, other-kind, predicate-proper, owns-proper, says-proper, and-proper, implies-proper, each-use-proper, once-proper, owns-kind, says-kind, and-kind, for-all-kind, implies-kind, communicates-kind, creates-kind, user-action-kind, body-policy, put-policy}
-pub use Rattle.formula_walks.proofs.WalkLaws.{bound-present, free-present, parameter-present, data-variable-present, term-present}
+pub use Rattle.formula_walks.proofs.WalkLaws.{bound-present, free-present, parameter-present, term-present}
+pub use Rattle.formula_book.proofs.DataAnswerLaws.{is-stray, is-clear, stray-is, clear-is}
 pub use Rattle.formula_book.proofs.WalkedRows.{policy-here, action-here, good-inside}
+pub use Rattle.definition.proofs.Trees.{beyond, number-inside}
 
 -- The laws of an admitted book.
 module _ (s : List ℕ) (is : AdmittedBook s) where
@@ -81,17 +83,6 @@ module _ (s : List ℕ) (row : ℕ) (g : GoodRow s row) where
 
   pub row-predicate : isPredicate (treeIn (book s) row) ≡ eqb (rowAt s row .kind) 0
   row-predicate = shape-predicate (row-is s row g)
-
--- A number beyond the book names no formula.
-pub beyond : (s : List ℕ) (k : ℕ) → bookRows s ≤ k → treeIn (book s) k ≡ no-formula
-unfolding book treeIn
-beyond s k le = List·getD-eq-default (trees s (bookRows s)) no-formula (omega (arith, trees-length s (bookRows s)))
-
--- So a number whose tree passes a test that no-formula fails is one of the book.
-pub number-inside : (s : List ℕ) (k : ℕ) (is : Formula → Bool) → is no-formula ≡ false → is (treeIn (book s) k) ≡ true → k < bookRows s
-number-inside s k is none here =
-    let within : bookRows s ≤ k → ⊥ = λ le. not-both here (ap is (beyond s k le) ∙ none) in
-    omega (arith, within)
 
 -- The agents are the numbers below 16,384.
 pub agent-is : (t : ℕ) → isObject agents (classOf t) ≡ ltb t 16384

@@ -9,11 +9,12 @@ use formula_walks::policy_instance;
 ghost use mathlib.Core.Path.{_≡_};
 ghost use mathlib.Core.Bool.{true};
 ghost use lib.ListN.{length};
-ghost use Rattle.definition.specs.13-Formulas.{isPolicy, same, put, has, closed, ground};
+ghost use Rattle.definition.specs.13-Formulas.{isPolicy, same, put, has, dataOf, closed, ground};
 ghost use Rattle.definition.specs.14-Book.{treeIn, book as trees};
 ghost use Rattle.formula_rows.specs.Meanings.{sortMeant, soughtMeant};
 ghost use Rattle.formula_walks.specs.DataWalk.{DataListed};
 ghost use Rattle.formula_walks.specs.WalkRows.{Present};
+ghost use Rattle.formula_book.specs.DataAnswers.{dataMeant, strayOr};
 ghost use Rattle.formula_book.specs.GoodRows.{GoodRow};
 
 // Does what is looked for stand in formula `row`?
@@ -48,13 +49,23 @@ pub fn is_ground(book: &[u8], row: usize) -> bool
     false
 }
 
-// The data objects and data parameters of policy `row`, ascending without repeats, in the first entries of `set`; how many. The entries behind them stay as they were.
-pub fn data_of(book: &[u8], row: usize, set: &mut [u16; 192]) -> usize
+// What is told of the data of a formula: how many there are, or, where a data variable stands in it, the lowest row that itself holds one.
+pub enum Data {
+    Listed(usize),
+    Stray(u16),
+}
+
+// The data objects and data parameters of policy `row`, ascending without repeats, in the first entries of `set`, data variable or not. The entries behind them stay as they were. The walk begins with 1,024, the number of no row.
+pub fn data_of(book: &[u8], row: usize, set: &mut [u16; 192]) -> Data
     requires { ⌜ GoodRow (now book) row × (isPolicy (treeIn (trees (now book)) row) ≡ true) ⌝ }
     requires { ⌜ length (now set) ≡ 192 ⌝ }
-    ensures { λ r. ⌜ DataListed (treeIn (trees (now (book .entry))) row) (now (set .entry)) r (now (set .exit)) ⌝ }
+    ensures { λ r. ⌜ (dataMeant r ≡ strayOr (now (book .entry)) row (length (dataOf (treeIn (trees (now (book .entry))) row)))) × DataListed (treeIn (trees (now (book .entry))) row) (now (set .entry)) (now (set .exit)) ⌝ }
 {
-    policy_data(book, row, set, 0)
+    let all = policy_data(book, row, set, 0, 1024);
+    if all.low < 1024 {
+        return Data::Stray(all.low as u16);
+    }
+    Data::Listed(all.many)
 }
 
 // Is formula `row` the policy `body` with the term put in for the variable of a for-all over the sort?

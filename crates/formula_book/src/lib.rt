@@ -5,6 +5,7 @@ mod fields;
 mod repeats;
 
 pub use admission::admit;
+pub use answers::Data;
 pub use answers::data_of;
 pub use answers::formula_has;
 pub use answers::is_body_with;

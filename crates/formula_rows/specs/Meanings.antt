@@ -27,7 +27,6 @@ termMeant Other = definition.no-term
 unfoldable pub soughtMeant : Sought → formulas.Sought
 soughtMeant (sought.Term u) = formulas.this-term u
 soughtMeant sought.Parameter = formulas.any-parameter
-soughtMeant sought.DataVariable = formulas.data-variable
 soughtMeant sought.FreeVariable = formulas.free-variable
 soughtMeant (sought.Bound s) = formulas.bound-variable (sortMeant s)
 

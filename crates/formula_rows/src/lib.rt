@@ -11,6 +11,7 @@ pub use rows::row_at;
 pub use rows::same_row;
 pub use sought::Sought;
 pub use sought::has_sort;
+pub use sought::is_data_variable;
 pub use sought::is_instance;
 pub use sought::is_sought;
 pub use sought::is_term;

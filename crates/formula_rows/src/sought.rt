@@ -3,13 +3,12 @@ use crate::terms::Sort;
 use crate::terms::Term;
 ghost use mathlib.Core.Path.{_≡_};
 ghost use Rattle.definition.specs.12-Terms.{classOf, isInstance, hasSort, isTerm};
-ghost use Rattle.definition.specs.13-Formulas.{any-parameter, isSought};
+ghost use Rattle.definition.specs.13-Formulas.{any-parameter, data-variable, isSought};
 ghost use Rattle.formula_rows.specs.Meanings.{sortMeant, soughtMeant};
 
 pub enum Sought {
     Term(u16),
     Parameter,
-    DataVariable,
     FreeVariable,
     Bound(Sort),
 }
@@ -55,6 +54,13 @@ fn is_any_parameter(number: u16) -> bool
     term.is_parameter(Sort::Data)
 }
 
+pub fn is_data_variable(number: u16) -> bool
+    ensures { λ r. ⌜ r ≡ isSought data-variable 0 number ⌝ }
+{
+    let term = Term::of(number);
+    term.is_variable(Sort::Data)
+}
+
 // Is the term, which stands under `depth` for-alls, what is looked for?
 pub fn is_sought(w: Sought, depth: usize, number: u16) -> bool
     ensures { λ r. ⌜ r ≡ isSought (soughtMeant w) depth number ⌝ }
@@ -62,7 +68,6 @@ pub fn is_sought(w: Sought, depth: usize, number: u16) -> bool
     match w {
         Sought::Term(u) => number == u,
         Sought::Parameter => is_any_parameter(number),
-        Sought::DataVariable => Term::of(number).is_variable(Sort::Data),
         Sought::FreeVariable => Term::of(number).is_free(depth),
         Sought::Bound(s) => Term::of(number).is_bound(s, depth),
     }

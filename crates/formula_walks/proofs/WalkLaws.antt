@@ -9,8 +9,8 @@ use native.Mathlib.Omega.{arith}
 use Rattle.definition.proofs.Tests.{not-both}
 use borrow.Author.Tests.{ne-eqb}
 use Rattle.definition.specs.01-Words.{absent}
-use Rattle.definition.specs.12-Terms.{Sort, classOf, isParameter, isVariable, isFree, isBound}
-use Rattle.definition.specs.13-Formulas.{Formula, isPolicy, isAction, this-term, any-parameter, data-variable, free-variable, bound-variable, isSought}
+use Rattle.definition.specs.12-Terms.{Sort, classOf, isParameter, isFree, isBound}
+use Rattle.definition.specs.13-Formulas.{Formula, isPolicy, isAction, this-term, any-parameter, free-variable, bound-variable, isSought}
 use Rattle.definition.specs.14-Book.{Row, rowAt, treeIn, book}
 use Rattle.formula_rows.specs.Nodes.{Node, leaf, said, pair, body, duty, no-node, nodeOf, nodeTable}
 use Rattle.formula_walks.specs.WalkRows.{WalkRow, Present}
@@ -65,6 +65,29 @@ shape-action (communicates-row e f t) a = inr e
 shape-action (creates-row e f t) a = inl (rw e)
 shape-action (user-action-row e f g t) a = inl (rw e)
 
+-- a leaf has the row's own fields
+abbrev IsLeaf : Node → Type 0
+IsLeaf (leaf x y z) = Unit {0}
+IsLeaf (said x y z) = ⊥
+IsLeaf (pair x y) = ⊥
+IsLeaf (body x) = ⊥
+IsLeaf (duty x y) = ⊥
+IsLeaf no-node = ⊥
+
+shape-leaf : {l : List Formula} {k : ℕ} {r : Row} → Shape l k r → IsLeaf (nodeOf r) → nodeOf r ≡ leaf (r .x) (r .y) (r .z)
+unfolding nodeOf nodeTable
+shape-leaf (predicate-row e f t) i = rw e
+shape-leaf (owns-row e f t) i = rw e
+shape-leaf (says-row e f t) i = absurd (rw e at i)
+shape-leaf (and-row e f t) i = absurd (rw e at i)
+shape-leaf (for-all-row e f t) i = absurd (rw e at i)
+shape-leaf (implies-row e f t) i = absurd (rw e at i)
+shape-leaf (each-use-row e f t) i = absurd (rw e at i)
+shape-leaf (once-row e f t) i = absurd (rw e at i)
+shape-leaf (communicates-row e f t) i = absurd (rw e at i)
+shape-leaf (creates-row e f t) i = rw e
+shape-leaf (user-action-row e f g t) i = rw e
+
 action-said : (r : Row) → r .kind ≡ 8 → nodeOf r ≡ said (r .x) (r .y) (r .z)
 unfolding nodeOf nodeTable
 action-said r e = rw e
@@ -81,10 +104,6 @@ free-present d = refl
 pub parameter-present : Present any-parameter
 unfolding isSought classOf isParameter
 parameter-present d = refl
-
-pub data-variable-present : Present data-variable
-unfolding isSought classOf isVariable
-data-variable-present d = refl
 
 pub term-present : (u : ℕ) → (u ≡ absent → ⊥) → Present (this-term u)
 unfolding isSought
@@ -105,6 +124,10 @@ module _ {is : Formula → Bool} {s : List ℕ} {row depth : ℕ} (g : WalkRow i
   pub leaf-read : (q : rows.Row) → rowMeant q ≡ rowAt s row → isAction (treeIn (book s) row) ≡ true → (q .kind ≡ 8 → ⊥) → nodeOf (rowAt s row) ≡ nodeMeant (node.Leaf (q .x) (q .y) (q .z))
   unfolding rowMeant nodeMeant
   leaf-read q e a other = rw (← e) (⊎-elim (λ h. h) (λ h. absurd (other h)) (shape-action (rw (← e) at shape) a))
+
+  pub own-leaf : (q : rows.Row) (x y z : ℕ) → rowMeant q ≡ rowAt s row → nodeOf (rowAt s row) ≡ nodeMeant (node.Leaf x y z) → nodeOf (rowAt s row) ≡ nodeMeant (node.Leaf (q .x) (q .y) (q .z))
+  unfolding rowMeant nodeMeant
+  own-leaf q x y z e n = rw (← e) (shape-leaf (rw (← e) at shape) (rw (e, n) tt))
 
   pub said-read : (q : rows.Row) → rowMeant q ≡ rowAt s row → q .kind ≡ 8 → nodeOf (rowAt s row) ≡ nodeMeant (node.Said (q .x) (q .y) (q .z))
   unfolding rowMeant nodeMeant
@@ -184,6 +207,9 @@ module _ {is : Formula → Bool} {s : List ℕ} {t place under : ℕ} {m : nodes
 
   pub to-last : {b : Before} {y : ℕ} → Parts m b y → (y < t) × WalkRow isPolicy s y under
   to-last p = goes-on under (omega arith) (parts-below p own .1)
+
+  pub first-lower : {js : Formula → Bool} {x y : ℕ} → Parts m (child js x) y → x < place
+  first-lower p = parts-below p own .0 .lower
 
   pub last-lower : {b : Before} {y : ℕ} → Parts m b y → y < place
   last-lower p = parts-below p own .1 .lower

@@ -97,29 +97,29 @@ module _ (s : List ℕ) (agent : ℕ) (f : Formula) (set : List ℕ) {r : ℕ} (
   pub as-counted : {len : ℕ} {q : Bool} → r ≡ len → q ≡ sameAll (premiseTrees s from r) (map (owns agent) (front set r)) → q ≡ sameAll (premiseTrees s from len) (map (owns agent) (dataOf f))
   as-counted counts q = rw (← counts, ← is) q
 
--- The rule, by the row of the step's own formula.
+and-itself : (a : Bool) → a && true ≡ a
+and-itself true = refl
+and-itself false = refl
+
+-- The rule, by the row of the step's own formula, in which no data variable stands.
 module _ {b : List ℕ} {k : ℕ} (r : rows.Row) (n : Numbered b k) (is : rowMeant r ≡ rowAt b k) (ps : List Formula) where
   pub no-grant : (r .kind ≡ 2 → ⊥) → (c : Case) (a : ℕ) → false ≡ owner c (treeIn (trees b) k) a ps
   unfolding owner
   no-grant other c a = rw (no-says r n is other _ _ _)
 
-  module _ (s : List ℕ) {agent : ℕ} (e : r .kind ≡ 2) (agent-is : agent ≡ agentOf s) where
+  module _ (s : List ℕ) {agent : ℕ} (e : r .kind ≡ 2) (agent-is : agent ≡ agentOf s) (clear : has data-variable 0 (treeIn (trees b) k) ≡ false) where
     owner-is :
         (a : ℕ) → owner (caseOf s) (treeIn (trees b) k) a ps
-        ≡ same (treeIn (trees b) k) (says agent (treeIn (trees b) (r .y)) (r .z)) && not (has data-variable 0 (treeIn (trees b) k)) && sameAll ps (map (owns agent) (dataOf (treeIn (trees b) k)))
+        ≡ same (treeIn (trees b) k) (says agent (treeIn (trees b) (r .y)) (r .z)) && sameAll ps (map (owns agent) (dataOf (treeIn (trees b) k)))
     unfolding owner caseOf firstPart target
     owner-is a =
         let body : firstPart (treeIn (trees b) k) ≡ treeIn (trees b) (r .y) = ap firstPart (says-tree r n is e) in
         let to : target (treeIn (trees b) k) ≡ r .z = ap target (says-tree r n is e) in
-        rw (body, to, agent-is)
+        rw (body, to, agent-is, clear) (ap (λ (q : Bool). q && sameAll ps (map (owns (agentOf s)) (dataOf (treeIn (trees b) k)))) (and-itself (same (treeIn (trees b) k) (says (agentOf s) (treeIn (trees b) (r .y)) (r .z)))))
 
     module _ {q : Bool} (said : q ≡ same (treeIn (trees b) k) (says agent (treeIn (trees b) (r .y)) (r .z))) where
       pub not-by-agent : not q ≡ true → (a : ℕ) → false ≡ owner (caseOf s) (treeIn (trees b) k) a ps
       not-by-agent other a = rw (owner-is a, fails said other)
 
-      module _ (by-agent : not q ≡ false) {v : Bool} (variable : v ≡ has data-variable 0 (treeIn (trees b) k)) where
-        pub has-variable : v ≡ true → (a : ℕ) → false ≡ owner (caseOf s) (treeIn (trees b) k) a ps
-        has-variable there a = rw (owner-is a, holds said by-agent, sym variable ∙ there)
-
-        pub owner-by : {t : Bool} → v ≡ false → t ≡ sameAll ps (map (owns agent) (dataOf (treeIn (trees b) k))) → (a : ℕ) → t ≡ owner (caseOf s) (treeIn (trees b) k) a ps
-        owner-by clear t a = rw (owner-is a, holds said by-agent, sym variable ∙ clear) t
+      pub owner-by : {t : Bool} → not q ≡ false → t ≡ sameAll ps (map (owns agent) (dataOf (treeIn (trees b) k))) → (a : ℕ) → t ≡ owner (caseOf s) (treeIn (trees b) k) a ps
+      owner-by by-agent t a = rw (owner-is a, holds said by-agent) t

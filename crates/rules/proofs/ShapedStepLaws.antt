@@ -5,29 +5,30 @@ use mathlib.Core.Bool.{Bool, true, false, not, _&&_}
 use mathlib.Core.Logic.{_⊎_, inr}
 use mathlib.Core.List.{List, [], _∷_, map}
 use native.Mathlib.Omega.{arith}
-use lib.Dec.{eqb, ltb}
-use borrow.Author.Tests.{ltb-false, not-false}
-use Rattle.definition.specs.01-Words.{absent}
+use borrow.Author.Tests.{ltb-false, ne-eqb, not-true, not-false}
 use Rattle.definition.specs.02-Ranges.{any, listed}
-use Rattle.definition.specs.04-Checks.{Checked, refuses, single, inOrder}
-use Rattle.definition.proofs.CheckLaws.{goes-on, stops, skip-before}
-use Rattle.definition.proofs.Tests.{and-true, or-false}
-use Rattle.definition.specs.13-Formulas.{isPolicy, closed}
-use Rattle.definition.specs.14-Book.{treeIn, book as trees}
+use Rattle.definition.specs.04-Checks.{Checked, accepts, refuses, single, inOrder}
+use Rattle.definition.proofs.CheckLaws.{goes-on, stops, skip-before, hold-all}
+use Rattle.definition.proofs.MisfitLaws.{fit-checks}
+use Rattle.definition.proofs.StepLaws.{spanFault, well-shaped}
+use Rattle.definition.specs.13-Formulas.{isPolicy, data-variable, has}
+use Rattle.definition.specs.14-Book.{treeIn, book as trees, strayRow}
 use Rattle.definition.specs.11-Layout.{formula-part, step-part, premise-part, count, agentOf}
-use Rattle.definition.specs.15-Records.{formulas, stepRule, stepFormula, stepArgument, stepFrom, stepCount, premiseStep, badSpan}
+use Rattle.definition.specs.15-Records.{formulas, stepRule, stepFormula, stepFrom, stepCount, premiseStep}
 use Rattle.definition.specs.17-Case.{Case, caseOf}
 use Rattle.case_file.proofs.Laws.{formula-named}
 use Rattle.definition.proofs.Spans.{span-holds}
-use Rattle.definition.specs.21-Rules.{first, admitsParameter, admitsTerm, isOtherKind, isOtherParty, anyFaulty, forAllIntro, forAllElim, otherPremise, otherFormula, noInstance, rule, rules, ruleAt}
-use Rattle.definition.specs.22-Steps.{ruleOf, premisesOf, mustBeAbsent, misshapen, premiseFormulas, wrongKind, wrongParty, wrongInstance, misfit, fitChecks}
+use Rattle.definition.specs.21-Rules.{first, owner, admitsParameter, admitsTerm, isOtherKind, isOtherParty, anyFaulty, forAllIntro, forAllElim, otherPremise, otherFormula, noInstance, rule, rules, ruleAt}
+use Rattle.definition.specs.22-Steps.{ruleOf, premisesOf, misshapen, strayVariable, premiseFormulas, wrongKind, wrongParty, wrongInstance, misfit, misfitChecks, fitChecks}
 use Rattle.case_file.specs.LentCase.{Lent, Numbered}
 use Rattle.case_parts.specs.Records.{StepFields}
 use Rattle.case_parts.specs.ShapedSteps.{CitedEntry, ShapedStep}
+use Rattle.formula_book.specs.DataAnswers.{stray, clear, strayOr}
 use Rattle.rules.specs.PremiseFormulas.{PremiseThere, PremisesThere, premiseTrees, OneOfThree, Argued, Premised}
 use Rattle.case_parts.specs.declared.records.Step.{Step}
 use Rattle.case_file.proofs.LentCaseLaws.{parted, steps-few, numbered}
 use Rattle.rules.proofs.CitedFormulas.{named}
+use Rattle.formula_book.proofs.Laws.{stray-is, clear-is}
 use Rattle.rules.proofs.RuleNumbers.{first-three, some-premise, of-two, of-one, without-premise, no-instance}
 
 map-listed : {A B : Type 0} (f : A → B) (g : ℕ → A) (n i : ℕ) → map f (listed g n i) ≡ listed (λ j. f (g j)) n i
@@ -53,20 +54,15 @@ pub record Shaped (s : List ℕ) (k : ℕ) : Type 0 where
   pub most : stepCount s k ≤ ruleAt (stepRule s k) .most
 
 pub shaped : (s : List ℕ) (k : ℕ) → misshapen (caseOf s) k ≡ false → Shaped s k
-unfolding misshapen ruleOf caseOf
+unfolding ruleOf caseOf spanFault
 shaped s k e =
-    let f = treeIn (formulas s) (stepFormula s k) in
-    let five = or-false _ (mustBeAbsent (ruleAt (stepRule s k) .names) && not (eqb (stepArgument s k) absent)) e .0 in
-    let most = or-false _ (ltb (ruleAt (stepRule s k) .most) (stepCount s k)) five in
-    let least = or-false _ (ltb (stepCount s k) (ruleAt (stepRule s k) .least)) (most .0) in
-    let span = or-false _ (badSpan (stepFrom s) (stepCount s) (count s step-part) (count s premise-part) k) (least .0) in
-    let formula = or-false (ltb 15 (stepRule s k)) (not (isPolicy f && closed f)) (span .0) in
+    let w = well-shaped (caseOf s) k e in
     record {
-      number = let h = ltb-false 15 (stepRule s k) (formula .0) in omega arith;
-      policy = and-true (isPolicy f) (closed f) (not-false (isPolicy f && closed f) (formula .1)) .0;
-      span = span-holds (stepFrom s) (stepCount s) (count s step-part) (count s premise-part) k (span .1) .within;
-      least = ltb-false (stepCount s k) (ruleAt (stepRule s k) .least) (least .1);
-      most = ltb-false (ruleAt (stepRule s k) .most) (stepCount s k) (most .1);
+      number = omega (arith, ltb-false 15 (stepRule s k) (w .number));
+      policy = w .policy;
+      span = span-holds (stepFrom s) (stepCount s) (count s step-part) (count s premise-part) k (w .span) .within;
+      least = ltb-false (stepCount s k) (ruleAt (stepRule s k) .least) (w .least);
+      most = ltb-false (ruleAt (stepRule s k) .most) (stepCount s k) (w .most);
     }
 
 -- A well-shaped step has a formula of the book.
@@ -89,6 +85,9 @@ module _ {s b : List ℕ} {k : ℕ} (lent : Lent s b) (st : ShapedStep s k) {t :
 
   pub own-numbered : Numbered b (t .formula)
   own-numbered = rw (is .formula) (numbered lent (formula-inside k lent (st .shaped)))
+
+  pub own-policy : isPolicy (treeIn (trees b) (t .formula)) ≡ true
+  own-policy = ap isPolicy (named lent (is .formula)) ∙ shape .policy
 
   pub premises-there : PremisesThere s (t .from) (t .len)
   premises-there j from to =
@@ -173,11 +172,40 @@ module _ {s b : List ℕ} {k : ℕ} (lent : Lent s b) (st : ShapedStep s k) {t :
   pub no-other-instance : (t .rule ≡ 14 → ⊥) → (t .rule ≡ 15 → ⊥) → wrongInstance (caseOf s) k ≡ false
   no-other-instance a b = none-other (no-instance (t .rule) rule-number a b)
 
+  -- Check 27 is of rule 5 alone.
+  pub not-owner : {x : Checked (Unit {0})} → (t .rule ≡ 5 → ⊥) → x ≡ inOrder (misfitChecks (caseOf s) k) → x ≡ inOrder (fitChecks (caseOf s) k)
+  unfolding fitChecks strayVariable caseOf
+  not-owner other e = e ∙ sym (goes-on _ _ (rw (ne-eqb (stepRule s k) 5 (λ five. other (is .rule ∙ five)))))
+
+  -- The answer of rule 5: a row to tell, or whether it fits.
+  module _ (five : t .rule ≡ 5) where
+    pub owner-fits : owner (caseOf s) (treeIn (trees b) (t .formula)) (t .argument) (premiseTrees s (t .from) (t .len)) ≡ not (misfit (caseOf s) k)
+    unfolding ruleAt rules rule
+    owner-fits = rw five at fits-is
+
+    variable-is : has data-variable 0 (treeIn (trees b) (t .formula)) ≡ strayVariable (caseOf s) k
+    unfolding strayVariable caseOf
+    variable-is = rw (← is .rule, five, named lent (is .formula))
+
+    place-is : strayRow b (t .formula) ≡ caseOf s .step k .stray
+    unfolding caseOf
+    place-is = rw (is .formula, lent .booked .is)
+
+    pub refused-27 : {p : ℕ} (q : Bool) → stray p ≡ strayOr b (t .formula) q → refuses 27 p ≡ inOrder (fitChecks (caseOf s) k)
+    unfolding fitChecks
+    refused-27 q e =
+        let h = stray-is b (t .formula) q e in
+        sym (stops _ _ 27 _ (refl, sym (h .1 ∙ place-is), sym variable-is ∙ h .0))
+
+    pub judged-27 : (q : Bool) {r : Bool} {x : Checked (Unit {0})} → clear r ≡ strayOr b (t .formula) q → x ≡ inOrder (misfitChecks (caseOf s) k) → x ≡ inOrder (fitChecks (caseOf s) k)
+    unfolding fitChecks
+    judged-27 q e h = h ∙ sym (goes-on _ _ (sym variable-is ∙ clear-is b (t .formula) q e .0))
+
   -- A rule without premises: check 18 alone, from the answer q of the test.
   pub refused-none :
       (r : ℕ) → t .rule ≡ r → OneOfThree r 0 1 2 → (q : Bool) {x : Checked (Unit {0})} → q ≡ ruleAt r .fits (caseOf s) (treeIn (trees b) (t .formula)) (t .argument) [] →
       x ≡ inOrder (single 18 k (not q) ∷ []) → x ≡ inOrder (fitChecks (caseOf s) k)
-  unfolding fitChecks premiseTrees listed any anyFaulty
+  unfolding misfitChecks premiseTrees listed any anyFaulty
   refused-none r e which q fits h =
       let len = by-none (rw e which) in
       let few = first-three which in
@@ -186,8 +214,9 @@ module _ {s b : List ℕ} {k : ℕ} (lent : Lent s b) (st : ShapedStep s k) {t :
       let inst : wrongInstance (caseOf s) k ≡ false = no-other-instance (λ z. omega arith) (λ z. omega arith) in
       let test : q ≡ ruleAt (t .rule) .fits (caseOf s) (treeIn (trees b) (t .formula)) (t .argument) [] = rw e fits in
       let fault : not q ≡ misfit (caseOf s) k = ap not (fits-none len test) ∙ sym (not-not (misfit (caseOf s) k)) in
-      h ∙ ap (λ b. inOrder (single 18 k b ∷ [])) fault
-      ∙ sym (skip-before (single 24 k _ ∷ single 25 k _ ∷ single 26 k _ ∷ []) (single 18 k _ ∷ []) (kind, (party, (inst, tt))))
+      not-owner (λ five. omega arith)
+      (h ∙ ap (λ b. inOrder (single 18 k b ∷ [])) fault
+      ∙ sym (skip-before (single 24 k _ ∷ single 25 k _ ∷ single 26 k _ ∷ []) (single 18 k _ ∷ []) (kind, (party, (inst, tt)))))
 
   -- A step of rule 14 or 15 that does not fit, though its argument is admitted: the instance is another.
   module _ (misfits : misfit (caseOf s) k ≡ true) where
@@ -210,22 +239,28 @@ module _ {s b : List ℕ} {k : ℕ} (lent : Lent s b) (st : ShapedStep s k) {t :
   pub place-few : k < 2048
   place-few = omega (arith, st .inside, steps-few s (parted lent))
 
--- The number of a step that does not fit, from the answers of the tests.
+-- What is answered of a step by whether it fits, q; and the number of one that does not, from the answers of the tests.
 module _ (c : Case) (k : ℕ) where
-  pub is-24 : wrongKind c k ≡ true → refuses 24 k ≡ inOrder (fitChecks c k)
-  unfolding fitChecks
+  pub fitting : {q : Bool} → q ≡ not (misfit c k) → q ≡ true → accepts tt ≡ inOrder (fitChecks c k)
+  fitting e taken = sym (hold-all _ (fit-checks c k .1 (not-true _ (sym e ∙ taken))))
+
+  pub unfitting : {q : Bool} → q ≡ not (misfit c k) → q ≡ false → misfit c k ≡ true
+  unfitting e left = not-false _ (sym e ∙ left)
+
+  pub is-24 : wrongKind c k ≡ true → refuses 24 k ≡ inOrder (misfitChecks c k)
+  unfolding misfitChecks
   is-24 e = sym (stops _ _ 24 k (refl, refl, e))
 
   module _ (kind : wrongKind c k ≡ false) where
-    pub is-25 : wrongParty c k ≡ true → refuses 25 k ≡ inOrder (fitChecks c k)
-    unfolding fitChecks
+    pub is-25 : wrongParty c k ≡ true → refuses 25 k ≡ inOrder (misfitChecks c k)
+    unfolding misfitChecks
     is-25 e = sym (goes-on _ _ kind ∙ stops _ _ 25 k (refl, refl, e))
 
     module _ (party : wrongParty c k ≡ false) where
-      pub is-26 : wrongInstance c k ≡ true → refuses 26 k ≡ inOrder (fitChecks c k)
-      unfolding fitChecks
+      pub is-26 : wrongInstance c k ≡ true → refuses 26 k ≡ inOrder (misfitChecks c k)
+      unfolding misfitChecks
       is-26 e = sym (goes-on _ _ kind ∙ goes-on _ _ party ∙ stops _ _ 26 k (refl, refl, e))
 
-      pub is-18 : wrongInstance c k ≡ false → misfit c k ≡ true → refuses 18 k ≡ inOrder (fitChecks c k)
-      unfolding fitChecks
+      pub is-18 : wrongInstance c k ≡ false → misfit c k ≡ true → refuses 18 k ≡ inOrder (misfitChecks c k)
+      unfolding misfitChecks
       is-18 e misfits = sym (goes-on _ _ kind ∙ goes-on _ _ party ∙ goes-on _ _ e ∙ stops _ _ 18 k (refl, refl, misfits))

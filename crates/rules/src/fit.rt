@@ -1,4 +1,5 @@
-// Whether a step fits its rule: checks 24, 25, 26 and 18. The rule's own test comes first; only where it fails is it asked why.
+// Whether a step fits its rule: checks 27, 24, 25, 26 and 18. The rule's own test comes first; only where it fails is it asked why. Rule 5's test tells a data variable too.
+use crate::sixteen::Ownership;
 use crate::sixteen::admits_parameter;
 use crate::sixteen::admits_term;
 use crate::sixteen::condition_row;
@@ -12,13 +13,13 @@ use case_parts::Step;
 use formula_rows::Row;
 use words::Failure;
 ghost use mathlib.Core.Path.{_≡_};
-ghost use mathlib.Core.Bool.{not, true};
+ghost use mathlib.Core.Bool.{true};
 ghost use Prim.Native.Nat.{_<_};
 ghost use Rattle.definition.specs.04-Checks.{refuses, inOrder};
 ghost use Rattle.definition.specs.13-Formulas.{Formula, kindOf};
 ghost use Rattle.definition.specs.17-Case.{caseOf};
 ghost use Rattle.definition.specs.21-Rules.{ruleAt, hasKind, hasParty, anyFaulty};
-ghost use Rattle.definition.specs.22-Steps.{wrongInstance, misfit, fitChecks};
+ghost use Rattle.definition.specs.22-Steps.{wrongInstance, misfit, misfitChecks, fitChecks};
 ghost use Rattle.case_file.specs.LentCase.{Lent, CaseLent};
 ghost use Rattle.words.specs.Meanings.{failureMeant};
 ghost use Rattle.case_parts.specs.Records.{StepFields};
@@ -179,7 +180,7 @@ fn misfit_number(file: &[u8], book: &[u8], k: usize, step: Step) -> u16
     requires { ⌜ Lent (now file) (now book) ⌝ }
     requires { ⌜ ShapedStep (now file) k × StepFields (now file) k step ⌝ }
     requires { ⌜ misfit (caseOf (now file)) k ≡ true ⌝ }
-    ensures { λ r. ⌜ refuses r k ≡ inOrder (fitChecks (caseOf (now (file .entry))) k) ⌝ }
+    ensures { λ r. ⌜ refuses r k ≡ inOrder (misfitChecks (caseOf (now (file .entry))) k) ⌝ }
 {
     let from = step.from as usize;
     let len = step.len as usize;
@@ -196,21 +197,37 @@ fn misfit_number(file: &[u8], book: &[u8], k: usize, step: Step) -> u16
     18
 }
 
-// Checks 24, 25, 26 and 18 of step `k`, by whether its rule's test holds.
-fn explained(file: &[u8], book: &[u8], k: usize, step: Step, fits: bool) -> Failure
+// Why step `k` does not fit: the first of checks 24, 25, 26 and 18 that fails, with the step.
+fn explained(file: &[u8], book: &[u8], k: usize, step: Step) -> Failure
     requires { ⌜ Lent (now file) (now book) ⌝ }
     requires { ⌜ ShapedStep (now file) k × StepFields (now file) k step ⌝ }
-    requires { ⌜ fits ≡ not (misfit (caseOf (now file)) k) ⌝ }
-    ensures { λ r. ⌜ failureMeant r ≡ inOrder (fitChecks (caseOf (now (file .entry))) k) ⌝ }
+    requires { ⌜ misfit (caseOf (now file)) k ≡ true ⌝ }
+    ensures { λ r. ⌜ failureMeant r ≡ inOrder (misfitChecks (caseOf (now (file .entry))) k) ⌝ }
 {
-    if fits {
-        return Failure::None;
-    }
     let number = misfit_number(file, book, k, step);
     Failure::At(number, k as u16)
 }
 
-// Checks 24, 25, 26 and 18 of step `k`. Rules 0 to 2 have no premise and no instance.
+// Checks 27, 24, 25, 26 and 18 of step `k`, a step of rule 5. The place of 27 is the row.
+fn check_owner(file: &[u8], book: &[u8], k: usize, step: Step) -> Failure
+    requires { ⌜ Lent (now file) (now book) ⌝ }
+    requires { ⌜ ShapedStep (now file) k × StepFields (now file) k step ⌝ }
+    requires { ⌜ step .rule ≡ 5 ⌝ }
+    ensures { λ r. ⌜ failureMeant r ≡ inOrder (fitChecks (caseOf (now (file .entry))) k) ⌝ }
+{
+    let told = owner(file, book, step.formula, step.from, step.len);
+    match told {
+        Ownership::Stray(row) => Failure::At(27, row),
+        Ownership::Judged(fits) => {
+            if fits {
+                return Failure::None;
+            }
+            explained(file, book, k, step)
+        }
+    }
+}
+
+// Checks 27, 24, 25, 26 and 18 of step `k`. Rules 0 to 2 have no premise and no instance.
 pub fn check_fit(file: &[u8], book: &[u8], views: &[u16; 1024], k: usize, step: Step) -> Failure
     requires { ⌜ CaseLent (now file) (now book) (now views) ⌝ }
     requires { ⌜ ShapedStep (now file) k × StepFields (now file) k step ⌝ }
@@ -225,13 +242,12 @@ pub fn check_fit(file: &[u8], book: &[u8], views: &[u16; 1024], k: usize, step: 
             place,
         ),
         2 => seen_row(file, book, views, step.formula, step.argument, place),
-        5 => {
-            let fits = owner(file, book, step.formula, step.from, step.len);
-            explained(file, book, k, step, fits)
-        }
+        5 => check_owner(file, book, k, step),
         _ => {
-            let fits = from_premises(file, book, k, step);
-            explained(file, book, k, step, fits)
+            if from_premises(file, book, k, step) {
+                return Failure::None;
+            }
+            explained(file, book, k, step)
         }
     }
 }

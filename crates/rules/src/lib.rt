@@ -1,4 +1,4 @@
-// The sixteen rules: checks 24, 25, 26 and 18, and what an action owes.
+// The sixteen rules: checks 27, 24, 25, 26 and 18, and what an action owes.
 mod comparisons;
 mod fit;
 mod policies;

@@ -1,4 +1,4 @@
-// The sixteen rules, a test each. Formulas are given by their numbers: `f` is the step's own, `p` and `q` are its premises'.
+// The sixteen rules, a test each; that of rule 5 also tells a row. Formulas are given by their numbers: `f` is the step's own, `p` and `q` are its premises'.
 use crate::comparisons::is_after;
 use crate::comparisons::is_and;
 use crate::comparisons::is_implies;
@@ -9,17 +9,17 @@ use crate::policies::Policy;
 use crate::policies::conclusion_of;
 use case_file::View;
 use case_parts::Step;
+use formula_book::Data;
 use formula_rows::Sort;
-use formula_rows::Sought;
 use formula_rows::Term;
 use words::Failure;
 ghost use mathlib.Core.Path.{_≡_};
-ghost use mathlib.Core.Bool.{not, true};
+ghost use mathlib.Core.Bool.{not, true, false};
 ghost use mathlib.Core.List.{[], _∷_, map};
 ghost use Prim.Native.Nat.{ℕ, _≤_, _<_};
 ghost use lib.ListN.{length};
 ghost use Rattle.definition.specs.04-Checks.{single, inOrder};
-ghost use Rattle.definition.specs.13-Formulas.{owns, same, kindOf, isPolicy, dataOf};
+ghost use Rattle.definition.specs.13-Formulas.{owns, same, kindOf, isPolicy, data-variable, has, dataOf};
 ghost use Rattle.definition.specs.14-Book.{sortOfCode, treeIn, book as trees};
 ghost use Rattle.formula_walks.specs.DataLists.{front};
 ghost use Rattle.formula_rows.specs.Meanings.{sortMeant};
@@ -33,6 +33,8 @@ ghost use Rattle.case_file.specs.LentCase.{Lent, CaseLent, Numbered};
 ghost use Rattle.words.specs.Meanings.{failureMeant};
 ghost use Rattle.case_parts.specs.Records.{StepFields};
 ghost use Rattle.case_parts.specs.ShapedSteps.{CitedEntry, ShapedStep};
+ghost use Rattle.formula_book.specs.DataAnswers.{strayOr};
+ghost use Rattle.rules.specs.Misfits.{ownerMeant};
 ghost use Rattle.rules.specs.PremiseFormulas.{PremiseThere, PremisesThere, premiseTrees, OneOfThree, Argued, Premised};
 
 // Check 18 of the step at `place`, by whether its rule fits.
@@ -291,28 +293,22 @@ fn owns_each(
     true
 }
 
-// Are the premises in the span "agent owns D", D "strictly ascending and exactly the data objects and data parameters in the formula"?
-fn owns_data(file: &[u8], book: &[u8], agent: u16, f: usize, from: usize, len: usize) -> bool
-    requires { ⌜ Lent (now file) (now book) × PremisesThere (now file) from len ⌝ }
-    requires { ⌜ Numbered (now book) f × (isPolicy (treeIn (trees (now book)) f) ≡ true) ⌝ }
-    ensures { λ r. ⌜ r ≡ definition.sameAll (premiseTrees (now (file .entry)) from len) (map (owns agent) (dataOf (treeIn (trees (now (book .entry))) f))) ⌝ }
-{
-    let mut set = [0u16; 192];
-    let n = formula_book::data_of(book, f, &mut set);
-    if n != len {
-        return false;
-    }
-    owns_each(file, book, agent, &set, from, n)
-}
-
-// 5 "owner: "agent says F to B" from 1 to 16 premises "agent owns D", D strictly ascending and exactly the data objects and data parameters in the formula, actions included; no data variable in it".
-pub fn owner(file: &[u8], book: &[u8], f: u16, from: u16, len: u16) -> bool
-    requires { ⌜ Lent (now file) (now book) × PremisesThere (now file) from len ⌝ }
-    requires { ⌜ Numbered (now book) f ⌝ }
+// Rule 5 of a formula without data variable, whose data are the first `many` entries of `set`.
+fn owned(
+    file: &[u8],
+    book: &[u8],
+    f: u16,
+    set: &[u16; 192],
+    many: usize,
+    from: usize,
+    len: usize,
+) -> bool
+    requires { ⌜ Lent (now file) (now book) × PremisesThere (now file) from len × Numbered (now book) f ⌝ }
+    requires { ⌜ (length (now set) ≡ 192) × (many ≤ 192) × (front (now set) many ≡ dataOf (treeIn (trees (now book)) f)) ⌝ }
+    requires { ⌜ has data-variable 0 (treeIn (trees (now book)) f) ≡ false ⌝ }
     ensures { λ r. ⌜ ((a : ℕ) → r ≡ definition.owner (caseOf (now (file .entry))) (treeIn (trees (now (book .entry))) f) a (premiseTrees (now (file .entry)) from len)) ⌝ }
 {
-    let at = f as usize;
-    let own = formula_rows::row_at(book, at);
+    let own = formula_rows::row_at(book, f as usize);
     if own.kind != 2 {
         return false;
     }
@@ -320,10 +316,33 @@ pub fn owner(file: &[u8], book: &[u8], f: u16, from: u16, len: u16) -> bool
     if !is_says(book, f, agent, own.y, own.z) {
         return false;
     }
-    if formula_book::formula_has(book, Sought::DataVariable, at) {
+    if many != len {
         return false;
     }
-    owns_data(file, book, agent, at, from as usize, len as usize)
+    owns_each(file, book, agent, set, from, many)
+}
+
+// What rule 5 comes to: the lowest row that itself holds a data variable, where one stands in the formula, or whether the step fits.
+pub enum Ownership {
+    Stray(u16),
+    Judged(bool),
+}
+
+// 5 "owner: "agent says F to B" from 1 to 16 premises "agent owns D", D strictly ascending and exactly the data objects and data parameters in the formula, actions included; no data variable in it".
+pub fn owner(file: &[u8], book: &[u8], f: u16, from: u16, len: u16) -> Ownership
+    requires { ⌜ Lent (now file) (now book) × PremisesThere (now file) from len ⌝ }
+    requires { ⌜ Numbered (now book) f × (isPolicy (treeIn (trees (now book)) f) ≡ true) ⌝ }
+    ensures { λ r. ⌜ ((a : ℕ) → ownerMeant r ≡ strayOr (now (book .entry)) f (definition.owner (caseOf (now (file .entry))) (treeIn (trees (now (book .entry))) f) a (premiseTrees (now (file .entry)) from len))) ⌝ }
+{
+    let mut set = [0u16; 192];
+    let told = formula_book::data_of(book, f as usize, &mut set);
+    match told {
+        Data::Stray(row) => Ownership::Stray(row),
+        Data::Listed(many) => {
+            let fits = owned(file, book, f, &set, many, from as usize, len as usize);
+            Ownership::Judged(fits)
+        }
+    }
 }
 
 // Rules 3, 7 and 8, which take a premise apart.

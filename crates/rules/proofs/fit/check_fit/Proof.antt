@@ -1,14 +1,15 @@
 -- `check_fit` meets its contract: the rules by their numbers. Assumes nothing.
 use borrow.Author.Needs.{needs}
-use mathlib.Core.Path.{refl, _∙_}
+use mathlib.Core.Path.{refl}
 use mathlib.Core.Logic.{inl, inr}
 use native.Mathlib.Omega.{arith}
 use Rattle.definition.specs.17-Case.{caseOf}
 use Rattle.definition.specs.21-Rules.{rule, rules, ruleAt}
 use Rattle.case_file.specs.LentCase.{Numbered}
+use Rattle.words.specs.Meanings.{failureMeant}
 use Rattle.case_parts.specs.ShapedSteps.{CitedEntry}
 use Rattle.rules.proofs.RuleNumbers.{label-there, condition-there, row-there, names-supposed, names-condition, names-row, premised}
-use Rattle.rules.proofs.ShapedStepLaws.{rule-number, own-numbered, premises-there, cites, fits-is, refused-none, place-few}
+use Rattle.rules.proofs.ShapedStepLaws.{rule-number, own-numbered, cites, not-owner, refused-none, fitting, unfitting, place-few}
 use Rattle.rules.proofs.fit.check_fit.Statement.{statement}
 use Rattle.rules.proofs.fit.check_fit.Tie as tie
 
@@ -43,18 +44,10 @@ seen-row-requires c κs =
     let start = c .before .before .before in
     ((start .pre .0, own start), row-there _ _ (names-row (c .match .keys3)) (cited start))
 
-owner-requires : tie.Need-owner-requires
-owner-requires c κs =
-    let start = c .before .before .before in
-    let lent = start .pre .0 .lent in
-    ((lent, premises-there lent (start .pre .1 .0) (start .pre .1 .1)), own start)
-
-explained-requires : tie.Need-explained-requires
-unfolding rule rules ruleAt
-explained-requires c κs =
-    let start = c .before .before .before .before in
-    let pre = start .pre in
-    (pre .0 .lent, (pre .1, c .owner .ensures _ ∙ (rw (c .before .match .keys4) at (fits-is (pre .0 .lent) (pre .1 .0) (pre .1 .1)))))
+check-owner-requires : tie.Need-check-owner-requires
+check-owner-requires c κs =
+    let pre = c .before .before .before .pre in
+    (pre .0 .lent, (pre .1, c .match .keys4))
 
 from-premises-requires : tie.Need-from-premises-requires
 from-premises-requires c κs =
@@ -64,32 +57,40 @@ from-premises-requires c κs =
     let m = c .match .rest in
     (lent, (at, premised (start .args .step .rule) (rule-number lent (at .0) (at .1)) (m .0 .0 .0 .1) (m .0 .0 .1) (m .0 .1) (m .1)))
 
-explained-requires-2 : tie.Need-explained-requires-2
-explained-requires-2 c κs = search needs
-
 returns : tie.Need-returns
-unfolding rule rules ruleAt
-returns c =
-    let pre = c .before .before .before .before .before .pre in
-    refused-none (pre .0 .lent) (pre .1 .0) (pre .1 .1) 0 (c .before .before .match .keys1) (inl refl) (c .before .suppose .result) (c .before .suppose .ensures) (c .refusal .ensures)
+unfolding failureMeant
+returns c = fitting _ _ (c .before .from-premises .ensures) (c .if1 .taken)
+
+explained-requires : tie.Need-explained-requires
+explained-requires c κs =
+    let start = c .before .before .before .before .before in
+    (start .pre .0 .lent, (start .pre .1, unfitting _ _ (c .before .from-premises .ensures) (c .if1 .left)))
 
 returns-2 : tie.Need-returns-2
 unfolding rule rules ruleAt
 returns-2 c =
     let pre = c .before .before .before .before .before .pre in
-    refused-none (pre .0 .lent) (pre .1 .0) (pre .1 .1) 1 (c .before .before .match .keys2) (inr (inl refl)) (c .before .condition-row .result) (c .before .condition-row .ensures) (c .refusal2 .ensures)
+    refused-none (pre .0 .lent) (pre .1 .0) (pre .1 .1) 0 (c .before .before .match .keys1) (inl refl) (c .before .suppose .result) (c .before .suppose .ensures) (c .refusal .ensures)
 
 returns-3 : tie.Need-returns-3
 unfolding rule rules ruleAt
 returns-3 c =
+    let pre = c .before .before .before .before .before .pre in
+    refused-none (pre .0 .lent) (pre .1 .0) (pre .1 .1) 1 (c .before .before .match .keys2) (inr (inl refl)) (c .before .condition-row .result) (c .before .condition-row .ensures) (c .refusal2 .ensures)
+
+returns-4 : tie.Need-returns-4
+unfolding rule rules ruleAt
+returns-4 c =
     let pre = c .before .before .before .before .pre in
     refused-none (pre .0 .lent) (pre .1 .0) (pre .1 .1) 2 (c .before .match .keys3) (inr (inr refl)) _ refl (c .seen-row .ensures)
 
-returns-4 : tie.Need-returns-4
-returns-4 c = search needs
-
 returns-5 : tie.Need-returns-5
 returns-5 c = search needs
+
+returns-6 : tie.Need-returns-6
+returns-6 c =
+    let pre = c .before .before .before .before .before .before .pre in
+    not-owner (pre .0 .lent) (pre .1 .0) (pre .1 .1) (λ five. c .before .before .before .match .rest .1 five) (c .explained .ensures)
 
 pub check-fit-spec : {M : Type 1} → statement M
 check-fit-spec =
@@ -101,12 +102,12 @@ check-fit-spec =
     condition-row-requires
     refusal-requires-2
     seen-row-requires
-    owner-requires
-    explained-requires
+    check-owner-requires
     from-premises-requires
-    explained-requires-2
     returns
+    explained-requires
     returns-2
     returns-3
     returns-4
-    returns-5)
+    returns-5
+    returns-6)

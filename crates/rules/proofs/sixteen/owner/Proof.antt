@@ -1,67 +1,53 @@
--- `owner` meets its contract: the three tests of the definition, in its order. Assumes nothing.
-use mathlib.Core.Path.{ap}
-use Rattle.definition.specs.13-Formulas.{isPolicy}
-use Rattle.formula_rows.specs.Meanings.{soughtMeant}
-use Rattle.formula_book.proofs.Laws.{data-variable-present}
-use Rattle.rules.proofs.ComparedRows.{good-row, readable}
-use Rattle.case_file.proofs.LentCaseLaws.{parted}
-use Rattle.rules.proofs.FormulaParts.{says-tree, says-body}
-use Rattle.rules.proofs.OwnedData.{no-grant, not-by-agent, has-variable, owner-by}
+-- `owner` meets its contract: the answer about the data tells a row, or the table holds them. Assumes nothing.
+use borrow.Author.Needs.{needs}
+use mathlib.Core.Path.{_≡_, refl, sym, ap, _∙_}
+use lib.ListN.{length}
+use Rattle.definition.specs.13-Formulas.{dataOf}
+use Rattle.definition.specs.14-Book.{treeIn, book}
+use Rattle.formula_book.specs.DataAnswers.{strayOr, dataMeant}
+use Rattle.formula_book.specs.declared.answers.Data.{Data}
+use Rattle.formula_book.proofs.Laws.{is-stray, is-clear, stray-is, clear-is}
+use Rattle.rules.specs.Misfits.{ownerMeant}
+use Rattle.rules.proofs.ComparedRows.{good-row}
 use Rattle.rules.proofs.sixteen.owner.Statement.{statement}
 use Rattle.rules.proofs.sixteen.owner.Tie as tie
 
-row-at-requires : tie.Need-row-at-requires
-row-at-requires c κs = readable (c .before .before .pre .1)
+abbrev start : tie.After-data-of → tie.Start
+start d = d .before .before .before .before
+
+data-of-requires : tie.Need-data-of-requires
+data-of-requires c κs =
+    let pre = c .before .before .before .pre in
+    ((good-row (pre .1 .0), pre .1 .1), refl)
+
+-- The answer about the data, where it is known.
+said : (d : tie.After-data-of) {x : Data} → d .data-of .result ≡ x → dataMeant x ≡ strayOr (start d .args .book .now) (start d .args .f) (length (dataOf (treeIn (book (start d .args .book .now)) (start d .args .f))))
+said d e = sym (ap dataMeant e) ∙ d .data-of .ensures .0
+
+enum-known-told : tie.Need-enum-known-told
+enum-known-told c = search needs
+
+enum-known-told-2 : tie.Need-enum-known-told-2
+enum-known-told-2 c = search needs
+
+owned-requires : tie.Need-owned-requires
+unfolding dataMeant
+owned-requires c κs =
+    let d = c .before .before .before .before in
+    let pre = start d .pre in
+    let l = d .data-of .ensures .1 in
+    let w = clear-is _ _ _ (said d (c .before .before .told2 .given .1)) in
+    ((pre .0 .0, pre .0 .1, pre .1 .0), ((l .long, rw (w .1) (l .few), rw (w .1) (l .is)), w .0))
 
 returns : tie.Need-returns
-returns c =
-    let own = c .before .before .row-at in
-    no-grant (own .result) (c .before .before .before .before .before .pre .1) (own .ensures) _ (c .if1 .taken) _
-
-agent-of-requires : tie.Need-agent-of-requires
-agent-of-requires c κs = parted (c .before .before .before .before .before .pre .0 .0)
-
-is-says-requires : tie.Need-is-says-requires
-is-says-requires c κs =
-    let own = c .before .before .before .row-at in
-    let pre = c .before .before .before .before .before .before .pre in
-    (pre .1, says-body (own .result) (pre .1) (own .ensures) (c .before .if1 .left))
+unfolding ownerMeant dataMeant
+returns c a =
+    let w = stray-is _ _ _ (said (c .before .before .before) (c .before .told .given .1)) in
+    is-stray _ _ _ (w .0) (w .1)
 
 returns-2 : tie.Need-returns-2
-returns-2 c =
-    let own = c .before .before .before .before .before .row-at in
-    let start = c .before .before .before .before .before .before .before .before in
-    not-by-agent (own .result) (start .pre .1) (own .ensures) _ (start .args .file .now) (c .before .before .before .if1 .left) (c .before .before .agent-of .ensures) (c .before .is-says .ensures) (c .if2 .taken)
-
-formula-has-requires : tie.Need-formula-has-requires
-unfolding soughtMeant
-formula-has-requires c κs = (good-row (c .before .before .before .before .before .before .before .before .pre .1), data-variable-present)
-
-returns-3 : tie.Need-returns-3
-unfolding soughtMeant
-returns-3 c =
-    let said = c .before .before .before in
-    let own = said .before .before .before .before .row-at in
-    let start = said .before .before .before .before .before .before .before in
-    has-variable (own .result) (start .pre .1) (own .ensures) _ (start .args .file .now) (said .before .before .if1 .left) (said .before .agent-of .ensures) (said .is-says .ensures) (c .before .before .if2 .left)
-    (c .before .formula-has .ensures) (c .if3 .taken)
-
-owns-data-requires : tie.Need-owns-data-requires
-unfolding isPolicy
-owns-data-requires c κs =
-    let said = c .before .before .before in
-    let own = said .before .before .before .before .row-at in
-    let pre = said .before .before .before .before .before .before .before .pre in
-    (pre .0, (pre .1, ap isPolicy (says-tree (own .result) (pre .1) (own .ensures) (said .before .before .if1 .left))))
-
-returns-4 : tie.Need-returns-4
-unfolding soughtMeant
-returns-4 c =
-    let said = c .before .before .before .before in
-    let own = said .before .before .before .before .row-at in
-    let start = said .before .before .before .before .before .before .before in
-    owner-by (own .result) (start .pre .1) (own .ensures) _ (start .args .file .now) (said .before .before .if1 .left) (said .before .agent-of .ensures) (said .is-says .ensures) (c .before .before .before .if2 .left)
-    (c .before .before .formula-has .ensures) (c .before .if3 .left) (c .owns-data .ensures)
+unfolding ownerMeant dataMeant
+returns-2 c a = is-clear _ _ _ (clear-is _ _ _ (said (c .before .before .before .before .before) (c .before .before .before .told2 .given .1)) .0) (c .owned .ensures a)
 
 pub owner-spec : {M : Type 1} → statement M
-owner-spec = tie.close (tie.spec row-at-requires returns agent-of-requires is-says-requires returns-2 formula-has-requires returns-3 owns-data-requires returns-4)
+owner-spec = tie.close (tie.spec data-of-requires enum-known-told enum-known-told-2 owned-requires returns returns-2)
