@@ -3,7 +3,7 @@
 use Prim.Native.Nat.{ℕ, zero, suc, _<_}
 use mathlib.Core.Bool.{true}
 use mathlib.Core.Logic.{inr, ⊎-elim}
-use mathlib.Core.Path.{_≡_, refl}
+use mathlib.Core.Path.{_≡_, refl, sym, _∙_}
 use mathlib.Core.List.{List, [], _∷_}
 use native.Mathlib.Omega.{arith}
 use lib.ListN.{length, getD}
@@ -16,12 +16,13 @@ use Rattle.definition.proofs.NoneOwed.{none-owed-exactly}
 use Rattle.definition.proofs.PassesExactly.{passes-exactly, refused-for-room}
 use Rattle.definition.proofs.RangeLaws.{all-true}
 use Rattle.definition.proofs.RefusalTable.{refused-by-table}
-use Rattle.definition.proofs.StrayPlaces.{tells-stray}
+use Rattle.definition.proofs.StrayPlaces.{tells-stray, place-by-book}
 use Rattle.definition.proofs.StruckFile.{strikes-unseen}
 use Rattle.definition.specs.01-Words.{absent}
 use Rattle.definition.specs.02-Ranges.{all}
 use Rattle.definition.specs.04-Checks.{single, each, Holds, Fails, AllHold, here, later, accepts}
 use Rattle.definition.specs.13-Formulas.{Formula, each-use, once}
+use Rattle.definition.specs.15-Records.{stepFormula}
 use Rattle.definition.specs.17-Case.{caseOf}
 use Rattle.definition.specs.18-Admission.{admissionChecks, admission}
 use Rattle.definition.specs.19-Rewriting.{strike}
@@ -61,7 +62,7 @@ pub short-room-told : InTable grant 0 23 1
 unfolding built
 short-room-told = refused-by-table grant [] 23 1 .0 refl
 
--- Refusals by 27: the lowest of two rows, of which a walk from the left meets the other first; in two files with the same formulas, whose owner steps have the same formula and other premises, as `PlaceByBook` takes them.
+-- Refusals by 27: the lowest of two rows, of which a walk from the left meets the other first; in two files with the same formulas, whose owner steps have the same formula and other premises.
 pub lowest-told : StrayTold (stray 5 (2 ∷ []) 14) 4
 unfolding builtTable
 lowest-told = tells-stray (stray 5 (2 ∷ []) 14) lent 4 refl
@@ -69,6 +70,25 @@ lowest-told = tells-stray (stray 5 (2 ∷ []) 14) lent 4 refl
 pub lowest-told-too : StrayTold (stray 5 (0 ∷ []) 14) 4
 unfolding builtTable
 lowest-told-too = tells-stray (stray 5 (0 ∷ []) 14) lent 4 refl
+
+-- So they tell one row: the step refused can only be step 1, and its formula is 14.
+first-formula : (k : ℕ) → k < 2 → caseOf (stray 5 (2 ∷ []) 14) .step k .rule ≡ 5 → stepFormula (stray 5 (2 ∷ []) 14) k ≡ 14
+unfolding builtTable
+first-formula zero lt r = absurd (omega (arith, let z : _≡_ {A = ℕ} 0 5 = r in z))
+first-formula (suc zero) lt r = refl
+first-formula (suc (suc k)) lt r = absurd (omega arith)
+
+second-formula : (k : ℕ) → k < 2 → caseOf (stray 5 (0 ∷ []) 14) .step k .rule ≡ 5 → stepFormula (stray 5 (0 ∷ []) 14) k ≡ 14
+unfolding builtTable
+second-formula zero lt r = absurd (omega (arith, let z : _≡_ {A = ℕ} 0 5 = r in z))
+second-formula (suc zero) lt r = refl
+second-formula (suc (suc k)) lt r = absurd (omega arith)
+
+pub one-row-told : (p q : ℕ) → StrayTold (stray 5 (2 ∷ []) 14) p → StrayTold (stray 5 (0 ∷ []) 14) q → p ≡ q
+unfolding builtTable
+one-row-told p q a b =
+    place-by-book (stray 5 (2 ∷ []) 14) (stray 5 (0 ∷ []) 14) p q a b refl
+    (first-formula (a .step) (a .there) (a .owner) ∙ sym (second-formula (b .step) (b .there) (b .owner)))
 
 -- The other way: checks 1 to 11 and all of step 0 hold, at step 1 check 12 holds and 13 fails; so 13 is told, with step 1.
 pub premise-fails : InTable laterPremise 3 13 1

@@ -1,13 +1,13 @@
 -- What the walks over the numbers from i to i + left - 1 find, in terms of the test p at each of them. Assumes nothing.
 use Prim.Native.Nat.{ℕ, zero, suc, _+_, _≤_, _<_}
-use mathlib.Core.Path.{_≡_, refl, sym, ap}
+use mathlib.Core.Path.{_≡_, refl, sym, ap, _∙_}
 use mathlib.Core.Bool.{Bool, true, false, false≢true}
 use mathlib.Core.Logic.{_↔_, inl, inr, ⊎-elim}
 use native.Mathlib.Nat.{eq-or-lt-of-le}
 use native.Mathlib.Omega.{arith}
 use lib.ListN.{length, getD}
 use lib.Dec.{ltb}
-use borrow.Author.Tests.{lt-ltb, le-ltb}
+use borrow.Author.Tests.{ltb-true, lt-ltb, le-ltb}
 use Rattle.definition.proofs.Tests.{and-true, and-intro, or-true, or-intro-left, or-intro-right, not-both, never-true}
 use Rattle.definition.specs.02-Ranges.{any, all, lowest, members, listed}
 use Rattle.definition.specs.03-Lists.{Among, Ascending}
@@ -166,3 +166,11 @@ unfolding listed
 listed-at f d zero i p h = absurd (omega arith)
 listed-at f d (suc n) i zero h = let e : i + 0 ≡ i = omega arith in rw e
 listed-at f d (suc n) i (suc p) h = let e : i + suc p ≡ i + 1 + p = omega arith in rw e (listed-at f d n (i + 1) p (omega arith))
+
+-- the lowest at which a test holds, where it does
+pub lowest-here : (p : ℕ → Bool) (n j : ℕ) → j < n → p j ≡ true → (lowest p n 0 < n) × (p (lowest p n 0) ≡ true) × ((q : ℕ) → q < lowest p n 0 → p q ≡ false)
+lowest-here p n j lt e =
+    let some : any p n 0 ≡ true = any-some p n 0 j (omega arith) (omega arith) e in
+    let inside : lowest p n 0 < n = ltb-true _ n (rw (let all : 0 + n ≡ n = omega arith in all) at (lowest-any p n 0) ∙ some) in
+    let f = lowest-found p n 0 (lowest p n 0) refl (omega arith) in
+    (inside, f .0, λ q below. f .1 q (omega arith) below)

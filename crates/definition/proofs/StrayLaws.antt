@@ -3,50 +3,25 @@ use Prim.Native.Nat.{ℕ, zero, suc, _+_, _≤_, _<_}
 use mathlib.Core.Path.{_≡_, refl, sym, _∙_}
 use mathlib.Core.Bool.{Bool, true, false, _&&_, _||_}
 use mathlib.Core.Logic.{inl, inr, ⊎-elim, _↔_}
-use mathlib.Core.List.{List, [], _∷_, map}
+use mathlib.Core.List.{List, [], _∷_}
 use native.Mathlib.Omega.{arith}
-use lib.Dec.{eqb}
-use borrow.Author.Tests.{ltb-true, lt-ltb, eqb-true, eq-eqb}
-use Rattle.definition.proofs.ListLaws.{append-among, among-append}
+use borrow.Author.Tests.{lt-ltb}
+use Rattle.definition.proofs.ListLaws.{among-is, joined-among, among-joined}
 use Rattle.definition.proofs.OccurrenceLaws.{variable-class}
-use Rattle.definition.proofs.RangeLaws.{any-some, lowest-found, lowest-is, lowest-any}
+use Rattle.definition.proofs.RangeLaws.{lowest-is, lowest-here}
 use Rattle.definition.proofs.Tests.{and-true, and-intro, or-is₃, or-true, or-intro-left, or-intro-right, not-both, never-true, trichotomy}
 use Rattle.definition.proofs.Trees.{AgentPolicyAgent, TwoParts, SortAndBody, Shape, predicate-row, owns-row, says-row, and-row, for-all-row, implies-row, each-use-row, once-row, communicates-row, creates-row, user-action-row, row-shape}
 use Rattle.definition.specs.01-Words.{absent}
-use Rattle.definition.specs.02-Ranges.{any, lowest}
-use Rattle.definition.specs.03-Lists.{Among, isAmong, joinAll}
+use Rattle.definition.specs.03-Lists.{Among, isAmong}
 use Rattle.definition.specs.12-Terms.{agents, data-objects, Class, object, parameter, variable, absent-term, no-term, sameSort, classOf, isObject, isParameter, isInstance, isVariable, hasSort}
 use Rattle.definition.specs.13-Formulas.{Formula, predicate, owns, says, and, for-all, implies, after, communicates, creates, user-action, no-formula, data-variable, isSought, has}
-use Rattle.definition.specs.14-Book.{Row, rowAt, bookRows, treeIn, book, inPlace, badFormula, childrenOf, rowsWithin, rowsOf, holdsVariable, strayRow}
-use Rattle.definition.specs.41-Occurrences.{Reaches, itself, below, Holds, Stray, StrayIs}
+use Rattle.definition.specs.14-Book.{Row, rowAt, bookRows, treeIn, book, inPlace, childrenOf, rowsWithin, rowsOf, holdsVariable, strayRow}
+use Rattle.definition.specs.41-Occurrences.{GoodRow, Reaches, itself, below, Holds, Stray, StrayIs}
 
 -- a row's own fields as a test
 pub holds-is : (r : Row) → (holdsVariable r ≡ true) ↔ Holds r
 unfolding holdsVariable isSought
 holds-is r = or-is₃ (variable-class data-objects (classOf (r .x))) (variable-class data-objects (classOf (r .y))) (variable-class data-objects (classOf (r .z)))
-
--- membership as a test
-among-is : (x : ℕ) (l : List ℕ) → (isAmong x l ≡ true) ↔ Among x l
-unfolding isAmong
-among-is x [] = (λ e. not-both e refl, λ a. absurd a)
-among-is x (y ∷ ys) = (
-  λ e. ⊎-elim (λ h. inl (eqb-true x y h)) (λ h. inr (among-is x ys .0 h)) (or-true (eqb x y) (isAmong x ys) e),
-  λ a. ⊎-elim (λ h. or-intro-left (isAmong x ys) (eq-eqb x y h)) (λ h. or-intro-right (eqb x y) (among-is x ys .1 h)) a,
-)
-
--- one of several lists
-module _ (f : ℕ → List ℕ) where
-  joined-among : (q : ℕ) (is : List ℕ) → Among q (joinAll (map f is)) → (i : ℕ) × Among i is × Among q (f i)
-  unfolding joinAll
-  joined-among q [] a = absurd a
-  joined-among q (i ∷ is) a =
-      ⊎-elim (λ h. (i, inl refl, h)) (λ h. let w = joined-among q is h in (w .0, inr (w .1), w .2)) (append-among (f i) (joinAll (map f is)) q a)
-
-  among-joined : (q i : ℕ) (is : List ℕ) → Among i is → Among q (f i) → Among q (joinAll (map f is))
-  unfolding joinAll
-  among-joined q i [] m a = absurd m
-  among-joined q i (j ∷ is) m a =
-      among-append (f j) (joinAll (map f is)) q (⊎-elim (λ e. inl (rw (← e) a)) (λ h. inr (among-joined q i is h a)) m)
 
 -- the depth of a data variable does not matter
 any-depth : (d e : ℕ) (f : Formula) → has data-variable d f ≡ has data-variable e f
@@ -107,14 +82,6 @@ unfolding hasIn
 one-in l i [] a e = absurd a
 one-in l i (j ∷ is) a e =
     ⊎-elim (λ h. or-intro-left (hasIn l is) (rw h at e)) (λ h. or-intro-right (has data-variable 0 (treeIn l j)) (one-in l i is h e)) a
-
--- the lowest at which a test holds, where it does
-lowest-here : (p : ℕ → Bool) (n j : ℕ) → j < n → p j ≡ true → (lowest p n 0 < n) × (p (lowest p n 0) ≡ true) × ((q : ℕ) → q < lowest p n 0 → p q ≡ false)
-lowest-here p n j lt e =
-    let some : any p n 0 ≡ true = any-some p n 0 j (omega arith) (omega arith) e in
-    let inside : lowest p n 0 < n = ltb-true _ n (rw (let all : 0 + n ≡ n = omega arith in all) at (lowest-any p n 0) ∙ some) in
-    let f = lowest-found p n 0 (lowest p n 0) refl (omega arith) in
-    (inside, f .0, λ q below. f .1 q (omega arith) below)
 
 -- tests joined in another order
 alone : (a : Bool) → a ≡ a || false
@@ -190,29 +157,23 @@ lower-rows i (communicates-row e f t) a = one-of i (f .body .lower) (rw e at a)
 lower-rows i (creates-row e f t) a = absurd (rw e at a)
 lower-rows i (user-action-row e f g t) a = absurd (rw e at a)
 
--- A row of a book, up to which none is bad.
-pub record RowsGood (s : List ℕ) (k : ℕ) : Type 0 where
-  pub good : (j : ℕ) → j ≤ k → badFormula s (book s) j ≡ false
-  pub inside : k < bookRows s
-  pub few : k < 1024
-
 module _ {s : List ℕ} where
-  shaped : {k : ℕ} → RowsGood s k → Shape (book s) k (rowAt s k)
+  shaped : {k : ℕ} → GoodRow s k → Shape (book s) k (rowAt s k)
   shaped {k} g = row-shape s k (g .good k (omega arith)) (g .inside)
 
-  pub child-lower : {k i : ℕ} → RowsGood s k → Among i (childrenOf (rowAt s k)) → i < k
+  child-lower : {k i : ℕ} → GoodRow s k → Among i (childrenOf (rowAt s k)) → i < k
   child-lower {k} {i} g a = lower-rows i (shaped g) a
 
-  pub sound-below : {k i : ℕ} → RowsGood s k → i ≤ k → RowsGood s i
-  sound-below g le = record { good = λ j l. g .good j (omega arith); inside = omega (arith, g .inside); few = omega (arith, g .few) }
+  good-below : {k i : ℕ} → GoodRow s k → i ≤ k → GoodRow s i
+  good-below g le = record { good = λ j l. g .good j (omega arith); inside = omega (arith, g .inside); few = omega (arith, g .few) }
 
-  child-sound : {k i : ℕ} → RowsGood s k → Among i (childrenOf (rowAt s k)) → RowsGood s i
-  child-sound g a = let lt = child-lower g a in sound-below g (omega arith)
+  child-good : {k i : ℕ} → GoodRow s k → Among i (childrenOf (rowAt s k)) → GoodRow s i
+  child-good g a = let lt = child-lower g a in good-below g (omega arith)
 
   -- what is reached is not above
-  pub reached-below : {k j : ℕ} → RowsGood s k → Reaches s k j → j ≤ k
+  pub reached-below : {k j : ℕ} → GoodRow s k → Reaches s k j → j ≤ k
   reached-below g itself = omega arith
-  reached-below g (below a r) = omega (arith, child-lower g a, reached-below (child-sound g a) r)
+  reached-below g (below a r) = omega (arith, child-lower g a, reached-below (child-good g a) r)
 
   -- the rows of a tree are those that are reached
   rows-reached : (d k q : ℕ) → Among q (rowsWithin s d k) → Reaches s k q
@@ -223,29 +184,29 @@ module _ {s : List ℕ} where
       let w = joined-among (rowsWithin s d) q (childrenOf (rowAt s k)) a in
       below (w .1) (rows-reached d (w .0) q (w .2))
 
-  reached-rows : (d : ℕ) {k q : ℕ} → RowsGood s k → k < d → Reaches s k q → Among q (rowsWithin s d k)
+  reached-rows : (d : ℕ) {k q : ℕ} → GoodRow s k → k < d → Reaches s k q → Among q (rowsWithin s d k)
   unfolding rowsWithin
   reached-rows zero g lt r = absurd (omega arith)
   reached-rows (suc d) g lt itself = inl refl
   reached-rows (suc d) {k} {q} g lt (below {i = i} a r) =
-      inr (among-joined (rowsWithin s d) q i (childrenOf (rowAt s k)) a (reached-rows d (child-sound g a) (omega (arith, child-lower g a)) r))
+      inr (among-joined (rowsWithin s d) q i (childrenOf (rowAt s k)) a (reached-rows d (child-good g a) (omega (arith, child-lower g a)) r))
 
   -- a data variable in the tree stands in a row of it
-  pub some-stray : (n k : ℕ) → k < n → RowsGood s k → has data-variable 0 (treeIn (book s) k) ≡ true → (q : ℕ) × Stray s k q
+  pub some-stray : (n k : ℕ) → k < n → GoodRow s k → has data-variable 0 (treeIn (book s) k) ≡ true → (q : ℕ) × Stray s k q
   some-stray zero k lt g e = absurd (omega arith)
   some-stray (suc n) k lt g e =
       ⊎-elim (λ h. (k, (itself, holds-is _ .0 h)))
       (λ h.
       let w = in-one (book s) (childrenOf (rowAt s k)) h in
-      let v = some-stray n (w .0) (omega (arith, child-lower g (w .1))) (child-sound g (w .1)) (w .2) in
+      let v = some-stray n (w .0) (omega (arith, child-lower g (w .1))) (child-good g (w .1)) (w .2) in
       (v .0, (below (w .1) (v .1 .0), v .1 .1)))
       (or-true (holdsVariable (rowAt s k)) (hasIn (book s) (childrenOf (rowAt s k))) (sym (own-or-below (g .few) (shaped g)) ∙ e))
 
-  pub stray-has : {k q : ℕ} → RowsGood s k → Stray s k q → has data-variable 0 (treeIn (book s) k) ≡ true
+  pub stray-has : {k q : ℕ} → GoodRow s k → Stray s k q → has data-variable 0 (treeIn (book s) k) ≡ true
   stray-has {k} g (itself, h) = own-or-below (g .few) (shaped g) ∙ or-intro-left (hasIn (book s) (childrenOf (rowAt s k))) (holds-is _ .1 h)
   stray-has {k} g (below {i = i} a r, h) =
       own-or-below (g .few) (shaped g)
-      ∙ or-intro-right (holdsVariable (rowAt s k)) (one-in (book s) i (childrenOf (rowAt s k)) a (stray-has (child-sound g a) (r, h)))
+      ∙ or-intro-right (holdsVariable (rowAt s k)) (one-in (book s) i (childrenOf (rowAt s k)) a (stray-has (child-good g a) (r, h)))
 
   -- there is one such row at most
   pub one-stray : {k p q : ℕ} → StrayIs s k p → StrayIs s k q → p ≡ q
@@ -255,14 +216,14 @@ module _ {s : List ℕ} where
       (trichotomy p q)
 
   -- the lowest that the definition finds is it
-  pub stray-row : {k p : ℕ} → RowsGood s k → StrayIs s k p → strayRow s k ≡ p
+  pub stray-row : {k p : ℕ} → GoodRow s k → StrayIs s k p → strayRow s k ≡ p
   unfolding strayRow rowsOf
   stray-row {k} {p} g h =
       lowest-is _ (bookRows s) 0 p (omega arith) (omega (arith, h .inside))
       (and-intro (among-is p (rowsWithin s (bookRows s) k) .1 (reached-rows (bookRows s) g (g .inside) (h .reached))) (holds-is _ .1 (h .holds)))
       (λ q from lt. never-true _ (λ e. let w = and-true (isAmong q (rowsWithin s (bookRows s) k)) _ e in h .lowest q lt (rows-reached (bookRows s) k q (among-is q _ .0 (w .0))) (holds-is _ .0 (w .1))))
 
-  pub stray-found : {k : ℕ} → RowsGood s k → has data-variable 0 (treeIn (book s) k) ≡ true → StrayIs s k (strayRow s k)
+  pub stray-found : {k : ℕ} → GoodRow s k → has data-variable 0 (treeIn (book s) k) ≡ true → StrayIs s k (strayRow s k)
   unfolding strayRow rowsOf
   stray-found {k} g e =
       let w = some-stray (k + 1) k (omega arith) g e in

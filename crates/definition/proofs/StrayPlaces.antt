@@ -13,7 +13,7 @@ use Rattle.definition.proofs.CheckLaws.{by-number, hold-all, fault-eith
 use Rattle.definition.proofs.PartLaws.{held-count, part-few}
 use Rattle.definition.proofs.RefusalTable.{refused-by-table}
 use Rattle.definition.proofs.StepLaws.{well-shaped}
-use Rattle.definition.proofs.StrayLaws.{RowsGood, one-stray, stray-found}
+use Rattle.definition.proofs.StrayLaws.{one-stray, stray-found}
 use Rattle.definition.proofs.Tests.{and-true}
 use Rattle.definition.proofs.Trees.{number-inside}
 use Rattle.definition.specs.04-Checks.{accepts, AllHold, FirstFault, here, later, single}
@@ -25,6 +25,7 @@ use Rattle.definition.specs.17-Case.{Case, caseOf}
 use Rattle.definition.specs.18-Admission.{checksToLog, admissionChecks, admission}
 use Rattle.definition.specs.22-Steps.{State, misshapen, strayVariable, citationChecks, misfitChecks, fitChecks, shapeChecks, useChecks, stepChecks, stateAt}
 use Rattle.definition.specs.31-Outcome.{closingChecks, roomChecks, owingChecks, endChecks, finalState}
+use Rattle.definition.specs.41-Occurrences.{GoodRow}
 use Rattle.definition.specs.44-Demands.{StepsHold, InTable, in-admission, in-owing, in-step, in-end}
 use Rattle.definition.specs.46-Requests.{StrayTold, TellsStray, PlaceByBook}
 
@@ -57,7 +58,7 @@ module _ (s : List ℕ) (a : AllHold (admissionChecks s)) where
   book-few = let g = admitted-parted s admitted in omega (arith, held-count s g formula-part (omega arith), part-few s g formula-part (omega arith))
 
   -- the number of a policy has no bad row up to it
-  policy-good : (n : ℕ) → isPolicy (treeIn (formulas s) n) ≡ true → RowsGood (part s formula-part) n
+  policy-good : (n : ℕ) → isPolicy (treeIn (formulas s) n) ≡ true → GoodRow (part s formula-part) n
   unfolding checksToLog admissionChecks layoutChecks bookChecks formulas isPolicy
   policy-good n e =
       let inside = number-inside (part s formula-part) n isPolicy refl e in

@@ -1,12 +1,13 @@
 -- What stands in a formula, and in which rows of its book, said without tests. Which fields of a row are rows is `childrenOf` of `14-Book`.
 use Prim.Native.Nat.{ℕ, _+_, _≤_, _<_}
 use mathlib.Core.Path.{_≡_}
+use mathlib.Core.Bool.{false}
 use mathlib.Core.Logic.{_⊎_}
 use mathlib.Core.List.{List}
 use Rattle.definition.specs.03-Lists.{Among}
 use Rattle.definition.specs.12-Terms.{Sort, data-objects, classOf, object, parameter, variable}
 use Rattle.definition.specs.13-Formulas.{Formula, predicate, owns, says, and, for-all, implies, after, communicates, creates, user-action, no-formula}
-use Rattle.definition.specs.14-Book.{Row, rowAt, bookRows, childrenOf}
+use Rattle.definition.specs.14-Book.{Row, rowAt, bookRows, book, badFormula, childrenOf}
 
 -- Some term of the formula has the property P; P is told how many for-alls stand around the term, d of them around the formula itself.
 abbrev pub Somewhere : (P : ℕ → ℕ → Type 0) → ℕ → Formula → Type 0
@@ -56,6 +57,12 @@ Policy (communicates x f z) = ⊥
 Policy (creates x y) = ⊥
 Policy (user-action c x y z) = ⊥
 Policy no-formula = ⊥
+
+-- Row k is one of a book of at most 1,024, and no row up to it is bad.
+pub record GoodRow (s : List ℕ) (k : ℕ) : Type 0 where
+  pub good : (j : ℕ) → j ≤ k → badFormula s (book s) j ≡ false
+  pub inside : k < bookRows s
+  pub few : k < 1024
 
 -- Row j is reached from row k of the book s: it is row k, or it is reached from a lower row that row k holds.
 pub data Reaches (s : List ℕ) : (k j : ℕ) → Type 0 where

@@ -5,7 +5,7 @@ use mathlib.Core.Bool.{Bool, true, false, cond}
 use mathlib.Core.Logic.{⊎-elim}
 use mathlib.Core.List.{List}
 use native.Mathlib.Omega.{arith}
-use Rattle.definition.proofs.StrayLaws.{RowsGood, reached-below, some-stray, stray-has, stray-row}
+use Rattle.definition.proofs.StrayLaws.{reached-below, some-stray, stray-has, stray-row}
 use Rattle.definition.proofs.Tests.{never-true}
 use Rattle.definition.specs.13-Formulas.{data-variable, has}
 use Rattle.definition.specs.14-Book.{treeIn, book, strayRow}
@@ -15,14 +15,11 @@ use Rattle.formula_book.specs.GoodRows.{GoodRow}
 use Rattle.formula_walks.specs.DataWalk.{Lowered}
 
 module _ {s : List ℕ} {row low : ℕ} (g : GoodRow s row) (l : Lowered (Stray s row) 1024 low) where
-  rows : RowsGood s row
-  rows = record { good = g .good; inside = g .inside; few = g .few }
-
   pub told-clear : {A : Type 0} {x y : A} → 1024 ≤ low → x ≡ y → clear x ≡ strayOr s row y
   unfolding strayOr
   told-clear above e =
       let none : has data-variable 0 (treeIn (book s) row) ≡ false =
-      never-true _ (λ h. let w = some-stray (row + 1) row (omega arith) rows h in omega (arith, l .least (w .0) (w .1), reached-below rows (w .1 .0), g .few)) in
+      never-true _ (λ h. let w = some-stray (row + 1) row (omega arith) g h in omega (arith, l .least (w .0) (w .1), reached-below g (w .1 .0), g .few)) in
       rw (none, e)
 
   found : low < 1024 → Stray s row low
@@ -32,7 +29,7 @@ module _ {s : List ℕ} {row low : ℕ} (g : GoodRow s row) (l : Lowered (Stray 
   lowest-found below =
       let w = found below in
       record {
-        inside = omega (arith, g .inside, reached-below rows (w .0));
+        inside = omega (arith, g .inside, reached-below g (w .0));
         holds = w .1;
         reached = w .0;
         lowest = λ q lt r h. omega (arith, l .least q (r, h));
@@ -40,7 +37,7 @@ module _ {s : List ℕ} {row low : ℕ} (g : GoodRow s row) (l : Lowered (Stray 
 
   pub told-stray : {A : Type 0} (y : A) → low < 1024 → stray low ≡ strayOr s row y
   unfolding strayOr
-  told-stray y lt = rw (stray-has rows (found lt), stray-row rows (lowest-found lt))
+  told-stray y lt = rw (stray-has g (found lt), stray-row g (lowest-found lt))
 
 -- What is told says whether a data variable stands in the formula, and the other way round.
 not-both-told : {A : Type 0} {p : ℕ} {x : A} → stray p ≡ clear x → ⊥
