@@ -67,9 +67,9 @@ struct justification_verdict {
 /*
 ** Refusals, in the order in which the checks are made: 1 to 11 by number, the
 ** lowest place first; then step by step, each through 12 to 17, then 27, 24, 25
-** and 26, then 18 and 19; then 20 to 23. A number is a name and tells no order.
-** One exception: where a step cites a log row that is struck out, 16 is tried
-** before 14. All places are counted from 0.
+** and 26, then 18, 19 and 28; then 20 to 23. A number is a name and tells no
+** order. One exception: where a step cites a log row that is struck out, 16 is
+** tried before 14. All places are counted from 0.
 **
 ** The file is damaged or not a case file. Ask whoever sent it for a good one.
 **
@@ -134,6 +134,16 @@ struct justification_verdict {
 **     and where an obligation's mark or action is not the one demanded.
 ** 19  "For all" was concluded from something assumed of one: the parameter
 **     still stands in the formula, or in what is supposed there.
+** 28  A statement is refined (rule 4) by more than a tautology, so that what is
+**     granted would outlive its grounds. The first premise, "F implies G", has
+**     to hold whatever was logged, certified or done: neither it nor any step
+**     that it rests on, by premises of premises, may cite a log row, a
+**     condition or an obligation, and it leaves no label open. To find the
+**     fault, go through these steps: one of rule 1, 2 or 12 cites; if there is
+**     none, one of rule 0 or 13 takes a label that no step by rule 9 or 11
+**     closes from there down to the first premise, this one included. The
+**     second premise may rest on anything. A reading C belongs in the grant:
+**     refine to "C implies G", and cite the reading where the grant is used.
 **
 ** Every step is in order, and the whole is not.
 **
@@ -194,6 +204,10 @@ struct justification_verdict {
     REFUSAL(18, MISFIT, "Step", "the rule does not give this formula.")        \
     REFUSAL(19, PARAMETER_NOT_FREE, "Step",                                    \
             "\"for all\" is concluded from something assumed of one.")         \
+    REFUSAL(28, NO_TAUTOLOGY, "Step",                                          \
+            "the first premise of rule 4 (refine) is not proved by logic "     \
+            "alone: it, or a step that it rests on, cites a log row, a "       \
+            "condition or an obligation, or it leaves a label open.")          \
     REFUSAL(20, STEP_NOT_USED, "Step", "no later step uses it.")               \
     REFUSAL(21, LABEL_OPEN, "Label", "it is still open at the end.")           \
     REFUSAL(22, NOT_WHAT_IS_OWED, "Step",                                      \
@@ -204,9 +218,9 @@ struct justification_verdict {
 ** Refusals that say more by the rule of the step, as a list, to be used with a
 ** macro of three parameters: number, rule, and what is wrong in words, which
 ** stand in place of the general ones above. No other rule is refused by these
-** numbers. The place of each is the step, so 27 is not among them. The rule of
-** step k is the 16-bit number, low byte first, at byte s + 10 * k of the file,
-** and s is the one at byte 28.
+** numbers. The place of each is the step, so 27 is not among them; nor is 28,
+** which is of one rule. The rule of step k is the 16-bit number, low byte
+** first, at byte s + 10 * k of the file, and s is the one at byte 28.
 */
 #define JUSTIFICATION_STEP_FAULTS(STEP_FAULT)                                  \
     STEP_FAULT(24, 3,                                                          \

@@ -1,5 +1,5 @@
 //! Document 01's examples: the rows of its table, and the desk cases; and examples of the numbers
-//! that change requests 1 and 2 of document 02 bring.
+//! that change requests 1 to 3 of document 02 bring.
 
 use std::fs;
 use std::path::Path;
@@ -20,6 +20,7 @@ pub fn examples() -> Vec<Vector> {
     all.extend(desk_cases());
     all.extend(misfits_at_the_desk());
     all.extend(data_variables_at_the_desk());
+    all.extend(refinements_at_the_desk());
     all
 }
 
@@ -131,6 +132,20 @@ fn data_variables_at_the_desk() -> Vec<Vector> {
         told_at("swap for x", "27: Grant, a swap for any modem", swap_for_any()),
         told_at("x open", "27: Grant, a swap for any modem told of", swap_and_tell()),
         passed("Grant, for all data, of none of them", of_none, &[], &[0]),
+    ]
+}
+
+/// 28 as the desk meets it; and refinements by tautologies.
+fn refinements_at_the_desk() -> Vec<Vector> {
+    let by_reading = |case: CaseFile| case.condition("open").step(CONDITION, "open", 0, &[]);
+    let by_supposing = |case: CaseFile| case.label(0, "open").step(SUPPOSE, "open", 1, &[]);
+    vec![
+        passed("Grant, refined", refined_to_open(), &[], &[0]),
+        passed("Grant, refined under a duty", refined_under_duty(), &[], &[0]),
+        refused("28: Grant, refined by a reading", refined_as_open(by_reading), 28, 6),
+        refused("28: Grant, refined by a log row", refined_as_open(told_of_it), 28, 7),
+        refused("28: Grant, refined by a duty done", refined_by_duty(), 28, 5),
+        refused("28: Grant, refined by supposing", refined_as_open(by_supposing), 28, 6),
     ]
 }
 
@@ -249,6 +264,101 @@ fn swap_and_tell() -> CaseFile {
         .formula("swap and keep any", for_all_data("swap and keep x"))
         .formula("use and swap", and("use", "swap and keep any"));
     granted(case, "use and swap")
+}
+
+/// What agent 0 created, and its use by agent 1: at all, while it is open, and once agent 1 has
+/// reported it.
+fn lent() -> CaseFile {
+    created()
+        .formula("open", predicate(9, &[data(0)]))
+        .formula("use", predicate(7, &[1, data(0)]))
+        .formula("use if open", implies("open", "use"))
+        .formula("1 reports", user_action(3, &[1]))
+        .row("0 creates", &[0])
+}
+
+/// Agent 0 grants agent 1 the one policy as the owner, and sends the other, which follows from it by
+/// what the last step has shown.
+fn refined(case: CaseFile, granted: &'static str, sent: &'static str) -> CaseFile {
+    let shown = case.steps.len() as u16 - 1;
+    case.formula("0 says granted", says(0, granted, 1))
+        .formula("0 says sent", says(0, sent, 1))
+        .formula("0 communicates", communicates(0, sent, 1))
+        .audits("0 communicates")
+        .step(SEEN, "0 owns", 0, &[])
+        .step(OWNER, "0 says granted", ABSENT, &[shown + 1])
+        .step(REFINE, "0 says sent", ABSENT, &[shown, shown + 2])
+}
+
+/// Agent 0 may let agent 1 use data 0, and lets it do so while it is open.
+fn refined_to_open() -> CaseFile {
+    let case = lent()
+        .formula("refinement", implies("use", "use if open"))
+        .label(0, "use")
+        .label(0, "open")
+        .step(SUPPOSE, "use", 0, &[])
+        .step(IMPLIES_FROM_LABEL, "use if open", 1, &[0])
+        .step(IMPLIES_FROM_LABEL, "refinement", 0, &[1]);
+    refined(case, "use", "use if open")
+}
+
+/// The same where agent 1 has to report, once for all uses: the duty is met by a label, which is
+/// closed again.
+fn refined_under_duty() -> CaseFile {
+    let case = lent()
+        .formula("report, then use", once("1 reports", "use"))
+        .formula("report, then use if open", once("1 reports", "use if open"))
+        .formula("refinement", implies("report, then use", "report, then use if open"))
+        .label(0, "report, then use")
+        .label(2, "1 reports")
+        .label(0, "open")
+        .step(SUPPOSE, "report, then use", 0, &[])
+        .step(BY_LABEL, "use", 1, &[0])
+        .step(IMPLIES_FROM_LABEL, "use if open", 2, &[1])
+        .step(OBLIGES_FROM_LABEL, "report, then use if open", 1, &[2])
+        .step(IMPLIES_FROM_LABEL, "refinement", 0, &[3]);
+    refined(case, "report, then use", "report, then use if open")
+}
+
+/// Agent 0 grants the use of data 0 while it is open, and sends a grant without that, since it is
+/// open, as the steps show that are put in.
+fn refined_as_open(shown: impl FnOnce(CaseFile) -> CaseFile) -> CaseFile {
+    let case = lent()
+        .formula("refinement", implies("use if open", "use"))
+        .label(0, "use if open")
+        .step(SUPPOSE, "use if open", 0, &[]);
+    let case = shown(case);
+    let open = case.steps.len() as u16 - 1;
+    let case = case.step(IMPLIED, "use", ABSENT, &[0, open]).step(
+        IMPLIES_FROM_LABEL,
+        "refinement",
+        0,
+        &[open + 1],
+    );
+    refined(case, "use if open", "use")
+}
+
+/// Agent 2 has told agent 0 that data 0 is open.
+fn told_of_it(case: CaseFile) -> CaseFile {
+    case.formula("2 says open", says(2, "open", 0))
+        .formula("2 communicates", communicates(2, "open", 0))
+        .row("2 communicates", &[0, 2])
+        .step(SEEN, "2 says open", 1, &[])
+        .step(SAYS, "open", ABSENT, &[1])
+}
+
+/// Agent 0 grants the use of data 0 for a report each time, and sends a grant without that, since
+/// agent 1 has reported.
+fn refined_by_duty() -> CaseFile {
+    let case = lent()
+        .formula("report, then use", each_use("1 reports", "use"))
+        .formula("refinement", implies("report, then use", "use"))
+        .obligation(1, "1 reports")
+        .label(0, "report, then use")
+        .step(SUPPOSE, "report, then use", 0, &[])
+        .step(BY_OBLIGATION, "use", 0, &[0])
+        .step(IMPLIES_FROM_LABEL, "refinement", 0, &[1]);
+    refined(case, "report, then use", "use")
 }
 
 /// Agent 1 uses data 0 under an each-use obligation, which it cites twice.

@@ -1,5 +1,5 @@
-//! The case files of `examples/`: document 01's desk cases, misfits as the desk meets them, and the
-//! worked examples of the two papers. A vector's name is its file's.
+//! The case files of `examples/`: document 01's desk cases, what the requests of document 02 bring,
+//! as the desk meets it, and the worked examples of the two papers. A vector's name is its file's.
 
 use std::fs;
 use std::io;
@@ -12,7 +12,7 @@ use crate::vectors::Vector;
 
 /// Each desk case's file, and its name among the examples. Row 23 needs a short room, which no
 /// program lends: the tests have it.
-const DESK: [(&str, &str); 24] = [
+const DESK: [(&str, &str); 30] = [
     ("grant", "Grant"),
     ("grant-no-steps", "row 10: Grant, no steps, no premises"),
     ("grant-other-agent", "row 11: Grant, agent 1"),
@@ -37,6 +37,12 @@ const DESK: [(&str, &str); 24] = [
     ("grant-swap", "27: Grant, a swap for any modem"),
     ("grant-swap-told", "27: Grant, a swap for any modem told of"),
     ("grant-for-all-of-none", "Grant, for all data, of none of them"),
+    ("grant-refined", "Grant, refined"),
+    ("grant-refined-under-duty", "Grant, refined under a duty"),
+    ("grant-refined-by-reading", "28: Grant, refined by a reading"),
+    ("grant-refined-by-row", "28: Grant, refined by a log row"),
+    ("grant-refined-by-duty", "28: Grant, refined by a duty done"),
+    ("grant-refined-by-supposing", "28: Grant, refined by supposing"),
 ];
 
 pub fn all() -> Vec<Vector> {

@@ -3,6 +3,8 @@
 //!
 //! A slip is a fault of reasoning in a case whose records are all in order.
 
+mod tautologies;
+
 use std::collections::BTreeSet;
 use std::mem;
 
@@ -24,8 +26,8 @@ struct Hypothesis {
 
 /// What a slip is: something supposed for good, a row cited that is hidden, struck or about others,
 /// an owner step over a data variable, a premise of another kind or about another party, an
-/// instance by another argument, an each-use obligation or label used twice, a parameter that is
-/// not free.
+/// instance by another argument, a refinement on other grounds than logic, an each-use obligation
+/// or label used twice, a parameter that is not free.
 #[derive(Clone, Copy, PartialEq)]
 enum Slip {
     Supposed,
@@ -36,13 +38,14 @@ enum Slip {
     Kind,
     Party,
     Instance,
+    Grounds,
     Obligation,
     Label,
     Parameter,
 }
 
 /// Those from `Variable` on are tried more often: the last three need more to come together.
-const SLIPS: [Slip; 18] = [
+const SLIPS: [Slip; 20] = [
     Slip::Supposed,
     Slip::Hidden,
     Slip::Struck,
@@ -55,6 +58,8 @@ const SLIPS: [Slip; 18] = [
     Slip::Party,
     Slip::Instance,
     Slip::Instance,
+    Slip::Grounds,
+    Slip::Grounds,
     Slip::Obligation,
     Slip::Obligation,
     Slip::Label,
@@ -88,6 +93,11 @@ pub fn slipping(random: &mut Random) -> CaseFile {
 /// A case with steps that cite rows which the agent does not see, or none.
 pub fn citing_hidden_rows(random: &mut Random) -> CaseFile {
     made(random, Some(Slip::Hidden))
+}
+
+/// A case with refine steps whose first premise rests on more than logic, or none.
+pub fn refining_on_grounds(random: &mut Random) -> CaseFile {
+    made(random, Some(Slip::Grounds))
 }
 
 /// Tries until everything keeps within the limits of a file.
@@ -127,7 +137,7 @@ impl Maker<'_> {
     /// An action of the agent, and what it owes.
     fn audit(&mut self) -> Option<(u16, u16)> {
         let agent = self.case.agent;
-        if self.random.one_in(2) {
+        if self.slip != Some(Slip::Grounds) && self.random.one_in(2) {
             let code = self.random.below(3) as u8;
             let mut terms = [agent, ABSENT, ABSENT];
             for term in &mut terms[1..1 + self.random.below(3)] {
@@ -208,6 +218,9 @@ impl Maker<'_> {
         };
         for _ in 0..6 {
             rules.extend(own);
+        }
+        if self.slip == Some(Slip::Grounds) && own.contains(&REFINE) {
+            rules.extend([REFINE; 12]);
         }
         if self.hypotheses.iter().any(|known| known.mark > 0 && !known.taken) {
             rules.extend([BY_LABEL; 4]);
@@ -370,11 +383,10 @@ impl Maker<'_> {
 
     fn refine(&mut self, goal: u16) -> Option<u16> {
         let [_, policy, z] = self.book.fields(goal);
-        let from = self.helper()?;
-        let implication = self.book.pair(5, from, policy)?;
+        let (from, shown) = self.refinement(policy)?;
         let by = self.party();
         let said = self.book.says(by, from, z)?;
-        let premises = [self.premise(implication)?, self.premise(said)?];
+        let premises = [shown, self.premise(said)?];
         self.step(REFINE, goal, ABSENT, &premises)
     }
 
@@ -433,10 +445,7 @@ impl Maker<'_> {
     /// Rules 9 and 11: what is left of the arrow may be used above.
     fn closing_label(&mut self, goal: u16) -> Option<u16> {
         let [formula, policy, _] = self.book.fields(goal);
-        let (rule, mark) = match self.book.kind(goal) {
-            5 => (IMPLIES_FROM_LABEL, 0),
-            kind => (OBLIGES_FROM_LABEL, kind as u16 - 5),
-        };
+        let (rule, mark) = closing(self.book.kind(goal));
         let number = self.label(mark, formula);
         self.hypotheses.push(Hypothesis { number, mark, formula, taken: false });
         let premise = self.prove(policy)?;
@@ -496,8 +505,16 @@ impl Maker<'_> {
         self.step(FOR_ALL, goal, argument, &[premise])
     }
 
-    /// The argument mostly stands in the formula, and some of its occurrences are the variable's.
     fn instance(&mut self, goal: u16) -> Option<u16> {
+        let (general, argument) = self.general(goal)?;
+        let premise = self.premise(general)?;
+        let argument = self.argument(argument);
+        self.step(INSTANCE, goal, argument, &[premise])
+    }
+
+    /// A for-all and an argument that give the formula. The argument mostly stands in the formula,
+    /// and some of its occurrences are the variable's.
+    fn general(&mut self, goal: u16) -> Option<(u16, u16)> {
         let is_name = |term: &u16| is_parameter(*term) || *term <= *Term::DATA.end();
         let terms = self.book.terms(goal).into_iter().map(|(term, _)| term);
         let mut arguments: Vec<u16> = terms.filter(is_name).collect();
@@ -506,9 +523,15 @@ impl Maker<'_> {
         let argument = self.random.pick(&arguments);
         let random = &mut *self.random;
         let general = self.book.generalised(goal, argument, || !random.one_in(3))?;
-        let premise = self.premise(general)?;
-        let argument = self.argument(argument);
-        self.step(INSTANCE, goal, argument, &[premise])
+        Some((general, argument))
+    }
+}
+
+/// The rule that gives an implication or a demand, and the mark of the label that it closes.
+fn closing(kind: u8) -> (u16, u16) {
+    match kind {
+        5 => (IMPLIES_FROM_LABEL, 0),
+        _ => (OBLIGES_FROM_LABEL, kind as u16 - 5),
     }
 }
 

@@ -22,6 +22,7 @@ pub mod papers;
 #[allow(unsafe_code)]
 pub mod proved;
 pub mod random;
+pub mod refinements;
 pub mod rooms;
 pub mod rounds;
 pub mod strays;

@@ -39,6 +39,8 @@ pub fn loads() -> Vec<Load> {
         load("rule 5, 25 at the last step", owners_refused(|rounds| rounds.pair(1, 1, data(15)))),
         load("rule 15, 26 at the last step", instances_refused()),
         load("rule 5, 27 at the last step", strays_refused()),
+        load("rule 4, tautologies", refinements()),
+        load("rule 4, 28 at the last step", refinements_refused()),
     ]
 }
 
@@ -333,6 +335,58 @@ fn strays_refused() -> CaseFile {
     let said = rounds.says(AGENT, told, 1);
     let last = rounds.case.steps.last_mut().expect("there are steps");
     last.formula = said;
+    filled(rounds)
+}
+
+/// "Agent says P to 1", as 1 has told the agent: the formula, and the step that gives it.
+fn told_to_say(rounds: &mut Rounds) -> (u16, u16) {
+    let said = rounds.says(AGENT, rounds.p, 1);
+    let (by_1, told) = (rounds.says(1, said, AGENT), rounds.communicates(1, said, AGENT));
+    let row = rounds.row(told);
+    let seen = rounds.step(SEEN, by_1, row, &[]);
+    (said, rounds.step(SAYS, said, ABSENT, &[seen]))
+}
+
+/// That formula refined to itself by "P implies P", again and again, until so many steps are left.
+/// Gives the last step.
+fn refine_steps(rounds: &mut Rounds, (said, given): (u16, u16), left: usize) -> u16 {
+    let implication = rounds.pair(5, rounds.p, rounds.p);
+    let mut last = given;
+    for label in (0..32).cycle() {
+        if rounds.case.steps.len() + left + 3 > 2_048 {
+            break;
+        }
+        let supposed = rounds.step(SUPPOSE, rounds.p, label, &[]);
+        let shown = rounds.step(IMPLIES_FROM_LABEL, implication, label, &[supposed]);
+        last = rounds.step(REFINE, said, ABSENT, &[shown, last]);
+    }
+    last
+}
+
+/// Rule 4 at every third step, each time by a tautology of two steps; P is the left of P and what
+/// comes of it.
+fn refinements() -> CaseFile {
+    let mut rounds = Rounds::new();
+    let told = told_to_say(&mut rounds);
+    let refined = refine_steps(&mut rounds, told, 2);
+    let both = rounds.pair(3, rounds.p, told.0);
+    let and = rounds.step(AND, both, ABSENT, &[rounds.last, refined]);
+    rounds.step(LEFT, rounds.p, ABSENT, &[and]);
+    filled(rounds)
+}
+
+/// The same in the second half of the steps. The last refinement is by "P implies P" again, of which
+/// P rests on step 0, a condition, by way of the whole first half.
+fn refinements_refused() -> CaseFile {
+    let mut rounds = Rounds::new();
+    while rounds.case.steps.len() + 3 <= 1_024 {
+        rounds.label_round(0);
+    }
+    let told = told_to_say(&mut rounds);
+    let refined = refine_steps(&mut rounds, told, 2);
+    let implication = rounds.pair(5, rounds.p, rounds.p);
+    let shown = rounds.step(IMPLIES_FROM_LABEL, implication, 0, &[rounds.last]);
+    rounds.step(REFINE, told.0, ABSENT, &[shown, refined]);
     filled(rounds)
 }
 

@@ -238,7 +238,16 @@ fn administration() -> Vec<Vector> {
     ]
 }
 
+/// Benny, whom Angela lets say something, refines it by what the last step has shown.
+fn as_refined(case: CaseFile, refined: &str) -> CaseFile {
+    let shown = case.steps.len() as u16 - 1;
+    case.step(SEEN, "a says b may say", MAY_SAY, &[])
+        .step(SAYS, "b may say c may read d2", ABSENT, &[shown + 1])
+        .step(REFINE, refined, ABSENT, &[shown, shown + 2])
+}
+
 /// Example 2: Benny passes on what he may say with a condition of his own, and Cristophe meets it.
+/// Section 4: of two permissions the one implies the other here, and that is not for everyone.
 fn refinement() -> Vec<Vector> {
     let benny = office(BENNY, "b tells c: with V4")
         .formula("refinement", implies("c may read d2", "with V4"))
@@ -246,28 +255,34 @@ fn refinement() -> Vec<Vector> {
         .label(0, "c has V4")
         .step(SUPPOSE, "c may read d2", 0, &[])
         .step(IMPLIES_FROM_LABEL, "with V4", 1, &[0])
-        .step(IMPLIES_FROM_LABEL, "refinement", 0, &[1])
-        .step(SEEN, "a says b may say", MAY_SAY, &[])
-        .step(SAYS, "b may say c may read d2", ABSENT, &[3])
-        .step(REFINE, "b may say with V4", ABSENT, &[2, 4]);
+        .step(IMPLIES_FROM_LABEL, "refinement", 0, &[1]);
     let no_refinement = office(BENNY, "a creates d1")
         .formula("to write", implies("c may read d2", "c may write d2"))
         .formula("b may say c may write d2", says(BENNY, "c may write d2", CRISTOPHE))
         .formula("b tells c: write", communicates(BENNY, "c may write d2", CRISTOPHE))
         .audits("b tells c: write")
         .label(0, "to write")
-        .step(SUPPOSE, "to write", 0, &[])
-        .step(SEEN, "a says b may say", MAY_SAY, &[])
-        .step(SAYS, "b may say c may read d2", ABSENT, &[1])
-        .step(REFINE, "b may say c may write d2", ABSENT, &[0, 2]);
+        .step(SUPPOSE, "to write", 0, &[]);
+    let no_refinement = as_refined(no_refinement, "b may say c may write d2");
+    let local_fact = office(BENNY, "a creates d1")
+        .formula("to b", implies("c may read d2", "b may read d1"))
+        .formula("b may say b may read d1", says(BENNY, "b may read d1", CRISTOPHE))
+        .formula("b tells c: b may read d1", communicates(BENNY, "b may read d1", CRISTOPHE))
+        .audits("b tells c: b may read d1")
+        .label(0, "c may read d2")
+        .step(SEEN, "c may say b may read d1", BENNY_MAY_READ, &[])
+        .step(SAYS, "b may read d1", ABSENT, &[0])
+        .step(IMPLIES_FROM_LABEL, "to b", 0, &[1]);
+    let local_fact = as_refined(local_fact, "b may say b may read d1");
     let cristophe = as_told(CRISTOPHE, "c reads d2", WITH_V4, "b may say with V4", "with V4")
         .condition("c has V4")
         .step(CONDITION, "c has V4", 0, &[])
         .step(IMPLIED, "c may read d2", ABSENT, &[1, 2]);
     let uncertified = cristophe.clone().change(|case| case.conditions[0] = ABSENT);
     vec![
-        passed("003-example-2-benny", benny, &[], &[MAY_SAY]),
-        refused("003-example-2-no-refinement", no_refinement, 21, 0),
+        passed("003-example-2-benny", as_refined(benny, "b may say with V4"), &[], &[MAY_SAY]),
+        refused("003-example-2-no-refinement", no_refinement, 28, 3),
+        refused("003-section-4-local-fact", local_fact, 28, 5),
         passed("003-example-2-cristophe", cristophe, &[], &[WITH_V4]),
         refused("003-example-2-version-not-certified", uncertified, 14, 2),
     ]

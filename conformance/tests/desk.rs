@@ -11,7 +11,7 @@ use conformance::damages::damaged;
 use conformance::desk::{records::RULES, show::show, text::text, words, write::write};
 use conformance::examples::{all, folder};
 use conformance::full_size::full_size;
-use conformance::justifications::{passing, slipping};
+use conformance::justifications::{passing, refining_on_grounds, slipping};
 use conformance::misfits;
 use conformance::random::{damage, Random};
 use conformance::streams;
@@ -61,10 +61,12 @@ fn misfits_by_rule() {
     }
 }
 
-/// A misfit of another rule than those that the header lists has the general words. So has 27.
+/// A misfit of another rule than those that the header lists has the general words. So have 27 and
+/// 28.
 #[test]
 fn misfits_in_general() {
-    for (number, place, counts) in [(25, 0, "Step"), (27, 0, "Formula"), (27, 1, "Formula")] {
+    let told = [(25, 0, "Step"), (27, 0, "Formula"), (27, 1, "Formula"), (28, 1, "Step")];
+    for (number, place, counts) in told {
         let said = words::words(&grant().to_bytes(), Verdict::Refused { number, place }, &[]);
         assert_eq!(said, [format!("{counts} {place}: {}", words::meaning(number).wrong)]);
     }
@@ -91,6 +93,31 @@ fn formulas_with_a_data_variable() {
         found += 1;
     }
     assert!(found > 10, "{found}");
+}
+
+/// At the end of a case refused by 28 stand the refine step and, below it, one that cites or supposes
+/// above its first premise, both as in the tree of steps.
+#[test]
+fn refinements_on_other_grounds() {
+    let known = examples_and_vectors().into_iter().chain(all()).map(|example| example.file);
+    let mut random = Random(0x6A09_E667_F3BC_C908);
+    let made = (0..500).map(|_| refining_on_grounds(&mut random).to_bytes());
+    let mut found = BTreeSet::new();
+    for file in known.chain(made) {
+        let Verdict::Refused { number: 28, place } = check(&file, &mut []) else { continue };
+        let shown = show(&file);
+        let lines: Vec<&str> = shown.lines().collect();
+        let [.., step, ground] = lines[..] else { panic!("{shown}") };
+        assert!(step.starts_with(&format!("  {place} refine: ")), "{shown}");
+        let (words, ground) = ground.split_once(" step ").expect("a step");
+        assert!(["  Its first premise rests on", "  Its first premise is"].contains(&words));
+        assert_eq!(lines.iter().filter(|line| line.trim_start() == ground).count(), 1, "{shown}");
+        let rules = ["condition", "seen row", "by obligation", "suppose label", "by label"];
+        let (_, rule) = ground.split_once(' ').expect("a rule");
+        let rule = rules.into_iter().find(|name| rule.starts_with(name)).expect("one of these");
+        found.insert((words.to_string(), rule));
+    }
+    assert_eq!(found.len(), 8, "{found:?}");
 }
 
 #[test]

@@ -1,14 +1,15 @@
 //! The checker against the documents' examples, the vectors, struck files and random damage.
 
-use std::collections::BTreeSet;
+use std::collections::{BTreeMap, BTreeSet};
 
-use conformance::builder::CaseFile;
-use conformance::cases::{examples, examples_and_vectors, grant, vector_files};
+use conformance::builder::*;
+use conformance::cases::{examples, examples_and_vectors, grant, vector_files, ROOM};
 use conformance::checker::{check, strike_unseen, Verdict, ABSENT};
 use conformance::desk::words::refusals;
-use conformance::justifications::slipping;
+use conformance::justifications::{passing, refining_on_grounds, slipping};
 use conformance::misfits::misfits;
 use conformance::random::{damage, Random};
+use conformance::refinements::{grounds, is_right_about_refining, refine_steps, tree};
 use conformance::rooms::{answer, room_too_short, PATTERN};
 use conformance::strays::{lowest_stray, strays};
 use conformance::vectors::Vector;
@@ -49,7 +50,7 @@ fn grant_has_106_bytes() {
 fn vectors_agree() {
     let files = vector_files();
     let all: Vec<Vector> = files.into_iter().flat_map(|(_, vectors)| vectors).collect();
-    assert!(all.len() >= 372, "{}", all.len());
+    assert!(all.len() >= 377, "{}", all.len());
     all.iter().for_each(assert_agrees);
 }
 
@@ -128,6 +129,7 @@ fn shortest_rooms() {
 
 /// What holds of every answer, whatever the file.
 fn assert_well_formed(file: &[u8], verdict: Verdict, room: &[u16]) {
+    assert!(is_right_about_refining(file, verdict), "{verdict}, {file:?}");
     let written = match verdict {
         Verdict::Passed { obligations, rows } => {
             let (duties, rest) = room.split_at(obligations as usize);
@@ -194,4 +196,88 @@ fn data_variables_anywhere() {
     assert!(refused >= 1_000 && met_later >= 100, "{refused}, {met_later}");
     assert_eq!(formulas, BTreeSet::from([2, 3, 4, 5, 6, 7]));
     assert_eq!(rows, BTreeSet::from([0, 1, 9, 10]));
+}
+
+/// Justifications that pass refine often, by tautologies of many forms: by every rule that neither
+/// cites nor leaves a label open for good. What is refined may rest on anything.
+#[test]
+fn refinements_by_tautologies() {
+    let mut random = Random(0x9E37_79B9_7F4A_7C15);
+    let (mut refining, mut deep, mut rules) = (0, 0, BTreeSet::new());
+    let (mut citing, mut supposing) = (0, 0);
+    for _ in 0..4_000 {
+        let case = passing(&mut random);
+        let (verdict, _) = run(&case.to_bytes(), ROOM);
+        assert!(matches!(verdict, Verdict::Passed { .. }), "{verdict}");
+        refining += usize::from(refine_steps(&case, case.steps.len()).count() > 0);
+        for (_, [first, second]) in refine_steps(&case, case.steps.len()) {
+            let steps = tree(&case, first);
+            deep += usize::from(steps.len() > 2);
+            rules.extend(steps.into_iter().map(|step| case.steps[step as usize].rule));
+            let refined = grounds(&case, second);
+            citing += usize::from(!refined.citing.is_empty());
+            supposing += usize::from(!refined.supposing.is_empty());
+        }
+    }
+    println!("{refining} cases refine, {deep} steps by more than two; second premises: {citing} cite, {supposing} suppose");
+    assert!(refining >= 400 && deep >= 400, "{refining}, {deep}");
+    assert!(citing >= 400 && supposing >= 20, "{citing}, {supposing}");
+    assert_eq!(rules, (0..16).filter(|rule| ![1, 2, 12].contains(rule)).collect());
+}
+
+/// What a step cites or supposes: its rule, the mark of the obligation or label, and whether it is
+/// the premise itself.
+fn kind_of_ground(case: &CaseFile, step: u16, premise: u16) -> (u16, u16, bool) {
+    let Step { rule, argument, .. } = case.steps[step as usize];
+    let (mark, _) = match rule {
+        BY_OBLIGATION => case.obligations[argument as usize],
+        SUPPOSE | BY_LABEL => case.labels[argument as usize],
+        _ => (0, 0),
+    };
+    (rule, mark, step == premise)
+}
+
+/// The rules of the steps through which what a step cites or supposes comes down to the premise.
+fn rules_on_the_way(case: &CaseFile, ground: u16, premise: u16) -> impl Iterator<Item = u16> + '_ {
+    let steps = tree(case, premise).into_iter();
+    let on_the_way = move |step: &u16| *step != ground && tree(case, *step).contains(&ground);
+    steps.filter(on_the_way).map(|step| case.steps[step as usize].rule)
+}
+
+/// Random slips bring 28 by everything that a refinement may not rest on, each alone. A log row gives
+/// a statement or an ownership and a condition a predicate, so that they never are the first premise
+/// themselves, which is an implication. Every rule that has premises hands on what is cited above it;
+/// only a step by rule 12 cites by itself, so that nothing above it is alone.
+#[test]
+fn refinements_on_every_ground() {
+    let mut random = Random(0xD1B5_4A32_D192_ED03);
+    let (mut refused, mut alone, mut rules) = (0, BTreeMap::new(), BTreeSet::new());
+    for _ in 0..30_000 {
+        let case = refining_on_grounds(&mut random);
+        let file = case.to_bytes();
+        let (verdict, room) = run(&file, 0);
+        assert_well_formed(&file, verdict, &room);
+        assert_blind_to_unseen(&file, 0);
+        let Verdict::Refused { number: 28, place } = verdict else { continue };
+        refused += 1;
+        let first = case.steps[place as usize].premises[0];
+        let found = grounds(&case, first);
+        let [ground] = *found.citing.union(&found.supposing).collect::<Vec<_>>() else { continue };
+        *alone.entry(kind_of_ground(&case, *ground, first)).or_insert(0) += 1;
+        if found.supposing.is_empty() {
+            rules.extend(rules_on_the_way(&case, *ground, first));
+        }
+    }
+    println!("{refused} refused; alone, by rule, mark, and whether it is the premise: {alone:?}");
+    assert!(refused >= 5_000, "{refused}");
+    let itself_or_above =
+        [(BY_OBLIGATION, 1), (BY_OBLIGATION, 2), (SUPPOSE, 0), (BY_LABEL, 1), (BY_LABEL, 2)];
+    let due = itself_or_above
+        .into_iter()
+        .flat_map(|(rule, mark)| [false, true].map(|itself| (rule, mark, itself)));
+    let due = due.chain([(CONDITION, 0, false), (SEEN, 0, false)]);
+    assert_eq!(alone.keys().copied().collect::<BTreeSet<_>>(), due.collect());
+    assert!(alone.values().all(|times| *times >= 100), "{alone:?}");
+    let due = (3..16).filter(|rule| *rule != BY_OBLIGATION).collect();
+    assert_eq!(rules, due, "those that hand on what is cited");
 }

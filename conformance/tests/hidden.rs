@@ -114,9 +114,9 @@ fn pairs_alike_to_the_agent() {
     println!("{turn} pairs, {differ} differ, {passed} passed, refused {refused:?}");
     assert!(turn < 25_000 && differ > 15_000, "{turn}, {differ}");
     assert!(passed > 3_000 && refused[&16] > 3_000, "{passed}, {refused:?}");
-    let misfits = ["DATA_VARIABLE", "WRONG_PREMISE_KIND", "WRONG_PARTY", "WRONG_INSTANCE"];
-    let misfits = misfits.map(number_of);
-    assert!(misfits.iter().all(|number| refused[number] >= 100), "{refused:?}");
+    let often =
+        ["DATA_VARIABLE", "WRONG_PREMISE_KIND", "WRONG_PARTY", "WRONG_INSTANCE", "NO_TAUTOLOGY"];
+    assert!(often.map(number_of).iter().all(|number| refused[number] >= 100), "{refused:?}");
     let listed: BTreeSet<u16> = refusals().iter().map(|refusal| refusal.number).collect();
     let due = listed.difference(&BTreeSet::from([1, 2, 5])).copied().collect();
     assert_eq!(refused.into_keys().collect::<BTreeSet<u16>>(), due);

@@ -167,6 +167,10 @@ fn console_words() {
     let data_variable = "Formula 2: it holds a data variable, and stands in the formula of an \
                          owner step (rule 5), which may hold none.";
     says(&example("grant-swap"), data_variable);
+    let by_reading = "Step 6: the first premise of rule 4 (refine) is not proved by logic alone: it, or \
+                      a step that it rests on, cites a log row, a condition or an obligation, or it \
+                      leaves a label open.";
+    says(&example("grant-refined-by-reading"), by_reading);
 }
 
 /// Runs a program over a file that is longer than any case, and tells how many bytes it has read.

@@ -107,7 +107,8 @@ fn seen() {
 }
 
 /// The wrong party is the premise's target in rule 3, the source of the second in rule 4. Its own
-/// formula with another source, or another target, is a misfit.
+/// formula with another source, or another target, is a misfit. Both come before 28: the first
+/// premise of rule 4 is only supposed here.
 #[test]
 fn says_and_refine() {
     assert_eq!(step(scene(), SAYS, &["2 says p to 1"], ABSENT, "p"), HOLDS);
@@ -117,7 +118,7 @@ fn says_and_refine() {
     assert_eq!(step(scene(), SAYS, &["2 says p to 1"], ABSENT, "q"), 18);
     assert_eq!(step(scene(), SAYS, &["2 says p to 1"], 0, "p"), 12);
     let refine = |said, formula| step(scene(), REFINE, &["p implies q", said], ABSENT, formula);
-    assert_eq!(refine("1 says p to 2", "1 says q to 2"), HOLDS);
+    assert_eq!(refine("1 says p to 2", "1 says q to 2"), 28);
     assert_eq!(refine("1 says p to 2", "1 says q to 3"), 18);
     assert_eq!(refine("1 says p to 2", "1 says p to 2"), 18);
     assert_eq!(refine("1 says p to 2", "2 says q to 2"), 18);
@@ -129,6 +130,223 @@ fn says_and_refine() {
     assert_eq!(refine("2 says q to 2", "1 says q to 3"), 25);
     let swapped = ["1 says p to 2", "p implies q"];
     assert_eq!(step(scene(), REFINE, &swapped, ABSENT, "1 says q to 2"), 24);
+}
+
+/// Formulas for refinements, and their labels: 0 is p, 1 p once more, 2 q, 3 "act" each use, 4
+/// "act" once, 5 what is refined. "p implies p" is proved from label 0 by step 1.
+fn refine_scene() -> CaseFile {
+    scene()
+        .formula("p implies p", implies("p", "p"))
+        .formula("q implies p", implies("q", "p"))
+        .formula("p implies q implies p", implies("p", "q implies p"))
+        .formula("act each use, p implies p", each_use("act", "p implies p"))
+        .formula("act once, p implies p", once("act", "p implies p"))
+        .formula("1 says q implies p to 2", says(1, "q implies p", 2))
+        .formula("2 tells p", communicates(2, "p", 1))
+        .formula("2 says p implies p to 1", says(2, "p implies p", 1))
+        .formula("2 tells p implies p", communicates(2, "p implies p", 1))
+        .formula("2 says so to 1", says(2, "1 says p to 2", 1))
+        .formula("2 tells so", communicates(2, "1 says p to 2", 1))
+        .formula("act once, 1 says p to 2", once("act", "1 says p to 2"))
+        .formula("2 says duty to 1", says(2, "act once, 1 says p to 2", 1))
+        .formula("2 tells duty", communicates(2, "act once, 1 says p to 2", 1))
+        .row("2 tells p", &[1])
+        .row("2 tells p implies p", &[1])
+        .row("2 tells so", &[1])
+        .row("2 tells duty", &[1])
+        .condition("p")
+        .obligation(1, "act")
+        .obligation(2, "act")
+        .label(0, "p")
+        .label(0, "p")
+        .label(0, "q")
+        .label(1, "act")
+        .label(2, "act")
+        .label(0, "1 says p to 2")
+        .step(SUPPOSE, "p", 0, &[])
+        .step(IMPLIES_FROM_LABEL, "p implies p", 0, &[0])
+}
+
+/// "1 says p to 2", which is supposed, refined to itself by the last step so far.
+fn refined(case: CaseFile) -> u16 {
+    let last = case.steps.len() as u16 - 1;
+    let case = case.step(SUPPOSE, "1 says p to 2", 5, &[]);
+    last_step(&case.step(REFINE, "1 says p to 2", ABSENT, &[last, last + 1]))
+}
+
+/// What is refined may rest on anything: on a log row, an obligation, a label left open, also the
+/// one that the tautology has closed.
+#[test]
+fn refine_by_a_tautology() {
+    assert_eq!(refined(refine_scene()), HOLDS);
+    let by_row = refine_scene()
+        .step(SEEN, "2 says so to 1", 2, &[])
+        .step(SAYS, "1 says p to 2", ABSENT, &[2])
+        .step(REFINE, "1 says p to 2", ABSENT, &[1, 3]);
+    assert_eq!(last_step(&by_row), HOLDS);
+    let by_obligation = refine_scene()
+        .step(SEEN, "2 says duty to 1", 3, &[])
+        .step(SAYS, "act once, 1 says p to 2", ABSENT, &[2])
+        .step(BY_OBLIGATION, "1 says p to 2", 1, &[3])
+        .step(REFINE, "1 says p to 2", ABSENT, &[1, 4]);
+    assert_eq!(last_step(&by_obligation), HOLDS);
+    let one_label = refine_scene()
+        .formula("refined implies itself", implies("1 says p to 2", "1 says p to 2"))
+        .formula("1 says it to 2", says(1, "1 says p to 2", 2))
+        .change(|case| case.steps.clear())
+        .label(0, "1 says it to 2")
+        .step(SUPPOSE, "1 says p to 2", 5, &[])
+        .step(IMPLIES_FROM_LABEL, "refined implies itself", 5, &[0])
+        .step(SUPPOSE, "1 says it to 2", 6, &[])
+        .step(REFINE, "1 says it to 2", ABSENT, &[1, 2]);
+    assert_eq!(last_step(&one_label), HOLDS);
+    let condition_put_before = refine_scene()
+        .change(|case| case.steps.truncate(1))
+        .step(IMPLIES_FROM_LABEL, "q implies p", 2, &[0])
+        .step(IMPLIES_FROM_LABEL, "p implies q implies p", 0, &[1])
+        .step(SUPPOSE, "1 says p to 2", 5, &[])
+        .step(REFINE, "1 says q implies p to 2", ABSENT, &[2, 3]);
+    assert_eq!(last_step(&condition_put_before), HOLDS);
+}
+
+/// A tautology in the making: nothing is proved yet.
+fn unproved() -> CaseFile {
+    refine_scene().change(|case| case.steps.clear())
+}
+
+#[test]
+fn refine_by_what_is_cited() {
+    let closed = |case: CaseFile| {
+        let last = case.steps.len() as u16 - 1;
+        refined(case.step(IMPLIES_FROM_LABEL, "p implies p", 0, &[last]))
+    };
+    assert_eq!(closed(unproved().step(CONDITION, "p", 0, &[])), 28);
+    let told = unproved().step(SEEN, "2 says p to 1", 0, &[]).step(SAYS, "p", ABSENT, &[0]);
+    assert_eq!(closed(told), 28);
+    let told = unproved().step(SEEN, "2 says p implies p to 1", 1, &[]);
+    assert_eq!(refined(told.step(SAYS, "p implies p", ABSENT, &[0])), 28);
+    for (demand, label, obligation) in
+        [("act each use, p implies p", 3, 0), ("act once, p implies p", 4, 1)]
+    {
+        let demanded = refine_scene().step(OBLIGES_FROM_LABEL, demand, label, &[1]);
+        let met = |rule, entry| refined(demanded.clone().step(rule, "p implies p", entry, &[2]));
+        assert_eq!(met(BY_OBLIGATION, obligation), 28);
+        assert_eq!(met(BY_LABEL, label), 28);
+    }
+}
+
+/// A label is told by its number: to close its twin does not close it. One that was closed may be
+/// opened again.
+#[test]
+fn refine_by_what_is_supposed() {
+    let supposed = unproved().label(0, "p implies p").step(SUPPOSE, "p implies p", 6, &[]);
+    assert_eq!(refined(supposed), 28);
+    let closed_by = |label| {
+        let supposed = unproved().step(SUPPOSE, "p", 0, &[]);
+        refined(supposed.step(IMPLIES_FROM_LABEL, "p implies p", label, &[0]))
+    };
+    assert_eq!([0, 1].map(closed_by), [HOLDS, 28]);
+    let again = |label, closing| {
+        let case = refine_scene().step(SUPPOSE, "p", label, &[]);
+        let case = case.step(IMPLIED, "p", ABSENT, &[1, 2]);
+        refined(case.step(IMPLIES_FROM_LABEL, "p implies p", closing, &[3]))
+    };
+    assert_eq!([(0, 0), (1, 1)].map(|(label, closing)| again(label, closing)), [HOLDS; 2]);
+    assert_eq!([(0, 1), (1, 0)].map(|(label, closing)| again(label, closing)), [28; 2]);
+    for (demand, label) in [("act each use, p", 3), ("act once, p", 4)] {
+        let met = unproved()
+            .formula("demand implies p", implies(demand, "p"))
+            .formula("demand implies itself", implies(demand, demand))
+            .formula("1 says demand to 2", says(1, demand, 2))
+            .label(0, demand)
+            .label(0, "1 says demand to 2")
+            .step(SUPPOSE, "1 says demand to 2", 7, &[])
+            .step(SUPPOSE, demand, 6, &[])
+            .step(BY_LABEL, "p", label, &[1]);
+        let left_open = met.clone().step(IMPLIES_FROM_LABEL, "demand implies p", 6, &[2]).step(
+            REFINE,
+            "1 says p to 2",
+            ABSENT,
+            &[3, 0],
+        );
+        assert_eq!(last_step(&left_open), 28);
+        let closed = met
+            .step(OBLIGES_FROM_LABEL, demand, label, &[2])
+            .step(IMPLIES_FROM_LABEL, "demand implies itself", 6, &[3])
+            .step(REFINE, "1 says demand to 2", ABSENT, &[4, 0]);
+        assert_eq!(last_step(&closed), HOLDS);
+    }
+}
+
+/// What is supposed above the first premise is handed on by every rule: here into a formula beside
+/// "p implies p". Rule 12 cites by itself, and is not among them.
+#[test]
+fn refine_by_what_is_handed_on() {
+    let (a, d) = (agent_parameter(0), data(0));
+    let scene = || {
+        refine_scene()
+            .formula("1 owns 0", owns(1, d))
+            .formula("of 0", predicate(7, &[d]))
+            .formula("1 says 0", says(1, "of 0", 2))
+            .formula("all p", for_all_agents("p"))
+    };
+    let steps: [(u16, &[&str], u16, &'static str); 10] = [
+        (SAYS, &["2 says p to 1"], ABSENT, "p"),
+        (OWNER, &["1 owns 0"], ABSENT, "1 says 0"),
+        (AND, &["p", "q"], ABSENT, "p and q"),
+        (LEFT, &["p and q"], ABSENT, "p"),
+        (RIGHT, &["p and q"], ABSENT, "q"),
+        (IMPLIES_FROM_LABEL, &["q"], 0, "p implies q"),
+        (IMPLIED, &["p implies q", "p"], ABSENT, "q"),
+        (OBLIGES_FROM_LABEL, &["p"], 4, "act once, p"),
+        (FOR_ALL, &["p"], a, "all p"),
+        (INSTANCE, &["all p"], 3, "p"),
+    ];
+    for (rule, premises, argument, formula) in steps {
+        let case = scene().formula("both", and("p implies p", formula));
+        let case = case.step_from(rule, premises, argument, formula);
+        let last = case.steps.len() as u16 - 1;
+        let case = case.step(AND, "both", ABSENT, &[1, last]);
+        assert_eq!(refined(case.step(LEFT, "p implies p", ABSENT, &[last + 1])), 28, "rule {rule}");
+    }
+    let case = scene().formula("both", and("p implies p", "act once, p"));
+    let case = case.step_from(BY_LABEL, &["act once, p"], 4, "p");
+    let last = case.steps.len() as u16 - 1;
+    let closed = case
+        .step(OBLIGES_FROM_LABEL, "act once, p", 4, &[last])
+        .step(AND, "both", ABSENT, &[1, last + 1])
+        .step(LEFT, "p implies p", ABSENT, &[last + 2]);
+    assert_eq!(refined(closed), 28);
+    let within = scene()
+        .formula("both", and("p implies p", "1 says p to 2"))
+        .step(SUPPOSE, "1 says p to 2", 5, &[])
+        .step(REFINE, "1 says p to 2", ABSENT, &[1, 2])
+        .step(SUPPOSE, "p", 0, &[])
+        .step(IMPLIES_FROM_LABEL, "p implies p", 0, &[4])
+        .step(AND, "both", ABSENT, &[5, 3])
+        .step(LEFT, "p implies p", ABSENT, &[6]);
+    assert_eq!(refined(within), 28);
+}
+
+/// 28 is of the refine rule alone, and comes after 17: an each-use label that both premises leave
+/// open.
+#[test]
+fn refine_and_other_rules() {
+    assert_eq!(step(scene(), IMPLIED, &["p implies q", "p"], ABSENT, "q"), HOLDS);
+    assert_eq!(step(scene(), AND, &["p", "q"], ABSENT, "p and q"), HOLDS);
+    let met = |second| {
+        let case = unproved()
+            .formula("act each use, 1 says p to 2", each_use("act", "1 says p to 2"))
+            .label(0, "act each use, p implies p")
+            .label(0, "act each use, 1 says p to 2")
+            .label(1, "act")
+            .step(SUPPOSE, "act each use, p implies p", 6, &[])
+            .step(BY_LABEL, "p implies p", 3, &[0])
+            .step(SUPPOSE, "act each use, 1 says p to 2", 7, &[])
+            .step(BY_LABEL, "1 says p to 2", second, &[2]);
+        last_step(&case.step(REFINE, "1 says p to 2", ABSENT, &[1, 3]))
+    };
+    assert_eq!([3, 8].map(met), [17, 28]);
 }
 
 /// Formulas for the owner rule. Data 1 stands inside an action only.
@@ -626,7 +844,7 @@ fn marks_that_do_not_match() {
 }
 
 /// Of several faults the first in the order of the checks is told: 17, 24, 25, 26, 18. Those with a
-/// data variable are above.
+/// data variable or a refinement are above.
 #[test]
 fn several_faults() {
     let at = |rule, premises: &[&str], argument, formula| {

@@ -15,6 +15,7 @@ use conformance::justifications::{passing, slipping};
 use conformance::loads::loads;
 use conformance::proved;
 use conformance::random::Random;
+use conformance::refinements::{grounds, is_right_about_refining, refine_steps};
 use conformance::rooms::{agreed, agreed_in_all_rooms, answer, room_too_short, PATTERN};
 use conformance::strays::{lowest_stray, strays};
 
@@ -57,8 +58,9 @@ fn random_file(turn: usize, random: &mut Random) -> (&'static str, Vec<u8>) {
 }
 
 /// 24, 25 and 26 come only with the rules for which the header has words. The place of 27 is a
-/// formula, and the one due.
+/// formula, and the one due. 28 is told where it is due, and nowhere else.
 fn assert_place(file: &[u8], verdict: Verdict) {
+    assert!(is_right_about_refining(file, verdict), "{verdict}, {file:?}");
     let Verdict::Refused { number, place } = verdict else { return };
     if number == 27 {
         assert_eq!(lowest_stray(file), Some(place), "{file:?}");
@@ -85,8 +87,10 @@ fn run(seed: u64, turns: usize) -> (Answers, BTreeMap<&'static str, usize>) {
     (answers, refused)
 }
 
-/// Misfits of every number come this often in the random files.
-const OFTEN: [(&str, usize); 5] = [
+/// Misfits of every number, and refinements by more than a tautology, come this often in the random
+/// files.
+const OFTEN: [(&str, usize); 6] = [
+    ("NO_TAUTOLOGY", 3_000),
     ("DATA_VARIABLE", 3_000),
     ("WRONG_PREMISE_KIND", 3_000),
     ("WRONG_PARTY", 3_000),
@@ -175,6 +179,23 @@ fn other_action(case: &mut CaseFile) -> u16 {
     1_023
 }
 
+/// As many refine steps as a file holds, all by tautologies; and the load whose last one rests on
+/// the first of all steps.
+#[test]
+fn refinements_of_full_size() {
+    let load =
+        |name: &str| loads().into_iter().find(|load| load.name == name).expect("it is there").case;
+    let tautologies = load("rule 4, tautologies");
+    assert_eq!(refine_steps(&tautologies, tautologies.steps.len()).count(), 681);
+    let verdict = agreed_in_all_rooms(&tautologies.to_bytes());
+    assert_eq!(verdict, Verdict::Passed { obligations: 0, rows: 1 });
+    let case = load("rule 4, 28 at the last step");
+    let (last, [first, _]) = refine_steps(&case, case.steps.len()).last().expect("there are some");
+    let found = grounds(&case, first);
+    assert_eq!((found.citing, found.supposing), (BTreeSet::from([0]), BTreeSet::new()));
+    refused(case, 28, last);
+}
+
 /// A stack of 64 KiB is enough for the largest files, with the thread's own frames; also for those
 /// whose last step is a misfit.
 #[test]
@@ -182,14 +203,13 @@ fn stack_of_64_kib() {
     let last_refused = full_size().change(|case| case.steps[2_047].argument = ABSENT);
     let misfits = loads().into_iter().filter(|load| load.name.ends_with("at the last step"));
     let misfits: Vec<CaseFile> = misfits.map(|load| load.case).collect();
-    for (case, due) in misfits.iter().zip([24, 25, 26]) {
-        let place = case.steps.len() as u16 - 1;
-        refused(case.clone(), due, place);
-    }
     let met = strays(&misfits[3].to_bytes()).expect("there are some").rows;
     assert_eq!((met.len(), met.iter().min()), (31, met.last()));
-    refused(misfits[3].clone(), 27, met[30]);
-    assert_eq!(misfits.len(), 4);
+    let last = |case: &CaseFile| case.steps.len() as u16 - 1;
+    assert_eq!(misfits.len(), 5);
+    for (case, due) in misfits.iter().zip([24, 25, 26, 27, 28]) {
+        refused(case.clone(), due, if due == 27 { met[30] } else { last(case) });
+    }
     let cases = misfits.into_iter().chain([full_size(), last_refused]);
     for file in cases.map(|case| case.to_bytes()) {
         let expected = answer(check, &file, ROOM);

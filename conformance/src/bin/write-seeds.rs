@@ -1,23 +1,24 @@
 //! Writes the fuzzer's first inputs to a folder: the known files that are short, and random
-//! justifications that pass, which have all sixteen rules among them.
+//! justifications, those that pass, which have all sixteen rules among them, and those that slip.
 
 use std::env;
 use std::fs;
 use std::io;
 use std::path::Path;
 
-use conformance::justifications::passing;
+use conformance::justifications::{passing, slipping};
 use conformance::pack::known_files;
 use conformance::random::Random;
 
 const LONGEST: usize = 4_096;
-const PASSING: usize = 300;
+const OF_EACH: usize = 300;
 
 fn main() -> io::Result<()> {
     let folder = env::args().nth(1).expect("give a folder");
     let mut random = Random(0x2545_F491_4F6C_DD1D);
-    let passing = (0..PASSING).map(|_| passing(&mut random).to_bytes());
-    let files = known_files().into_iter().chain(passing).filter(|file| file.len() <= LONGEST);
+    let made = (0..OF_EACH).flat_map(|_| [passing(&mut random), slipping(&mut random)]);
+    let files = known_files().into_iter().chain(made.map(|case| case.to_bytes()));
+    let files = files.filter(|file| file.len() <= LONGEST);
     for (number, file) in files.enumerate() {
         fs::write(Path::new(&folder).join(format!("{number}.case")), file)?;
     }

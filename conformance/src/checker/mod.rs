@@ -1,10 +1,10 @@
-//! The plain checker of one case: document 01 from top to bottom, with change requests 1 and 2 of
+//! The plain checker of one case: document 01 from top to bottom, with change requests 1 to 3 of
 //! document 02, one small function for each check and each rule. Here are the answers and the order
 //! of the checks. The checks themselves are in `case_file`, `terms`, `formulas`, `records`, `steps`,
 //! `misfits`, `rules` and `end`, to be read in this order; `striking` is apart from them.
 //!
 //! Formulas are read into trees and trees are compared, so nothing here rests on one meaning
-//! having one row number. Words in quotes are document 01's, and those about 24 to 27 document
+//! having one row number. Words in quotes are document 01's, and those about 24 to 28 document
 //! 02's.
 
 mod case_file;
@@ -94,8 +94,8 @@ pub fn check(file: &[u8], room: &mut [u16]) -> Verdict {
 }
 
 /// "Order: 1 to 11 by number, lowest place first; then steps in order, each through 12 to 19 by
-/// number; then 20 to 23." In a step 27 and then 24 to 26 come just before 18. No proof means none
-/// owed.
+/// number; then 20 to 23." In a step 27 and then 24 to 26 come just before 18, and 28 after 19. No
+/// proof means none owed.
 fn judge(file: &[u8], room: usize) -> Result<Option<Proof>, Refusal> {
     let case = admit(file)?;
     let owed = owed(&case.action, case.agent);

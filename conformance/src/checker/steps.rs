@@ -1,4 +1,4 @@
-//! The steps of a justification, one after the other; checks 12 to 19 and 24 to 27, of which 18 is
+//! The steps of a justification, one after the other; checks 12 to 19 and 24 to 28, of which 18 is
 //! in `rules`, and 24 to 27 are in `misfits`.
 
 use std::collections::BTreeSet;
@@ -22,10 +22,12 @@ pub(super) struct Proof {
     pub(super) rows: BTreeSet<u16>,
 }
 
-/// What a step hands on: its formula and the set of labels it leaves open.
+/// What a step hands on: its formula, the set of labels it leaves open, and whether it or a step
+/// above it cites a log row, a condition or an obligation.
 pub(super) struct Proved {
     pub(super) formula: Tree,
     pub(super) open: BTreeSet<u16>,
+    cites: bool,
 }
 
 /// A rule applied: a step that has passed checks 12 and 13, with its premises.
@@ -39,7 +41,8 @@ pub(super) struct Inference<'a> {
 }
 
 /// One step through its checks. "One exception: at a seen step, 16 comes before 14 for a struck
-/// row." And 24 to 26 are "tried in that order just before 18", with 27 "just before 24".
+/// row." And 24 to 26 are "tried in that order just before 18", with 27 "just before 24"; 28 comes
+/// "after 19".
 pub(super) fn take_step(case: &Case, proof: &mut Proof) -> Result<(), Refusal> {
     let place = proof.proved.len();
     let (formula, span) = check_12(case, proof, place)?;
@@ -66,9 +69,10 @@ pub(super) fn take_step(case: &Case, proof: &mut Proof) -> Result<(), Refusal> {
     inference.check_26()?;
     inference.check_18()?;
     inference.check_19()?;
-    let open = inference.left_open();
+    inference.check_28()?;
+    let (open, cites) = (inference.left_open(), inference.cites());
     let formula = inference.formula;
-    proof.proved.push(Proved { formula, open });
+    proof.proved.push(Proved { formula, open, cites });
     match step.rule {
         2 => proof.rows.insert(step.argument),
         12 => proof.obligations.insert(step.argument),
@@ -192,6 +196,21 @@ impl Inference<'_> {
         let mut open = self.premises[0].open.iter();
         let label = |number: &u16| &self.case.labels[*number as usize].formula;
         self.ensure(!open.any(|number| label(number).mentions(self.argument)), 19)
+    }
+
+    /// 28: "Rule 4's first premise and all above it may cite no log row, condition or obligation; it
+    /// leaves no label open."
+    fn check_28(&self) -> Result<(), Refusal> {
+        if self.rule != 4 {
+            return Ok(());
+        }
+        let refinement = self.premises[0];
+        self.ensure(!refinement.cites && refinement.open.is_empty(), 28)
+    }
+
+    /// Rule 1 cites a condition, rule 2 a log row, rule 12 an obligation.
+    fn cites(&self) -> bool {
+        matches!(self.rule, 1 | 2 | 12) || self.premises.iter().any(|premise| premise.cites)
     }
 
     /// The labels left open: "that of its premises together, with its own added (0, 13) or closed

@@ -4,6 +4,7 @@ use std::fmt::Write;
 
 use crate::cases::ROOM;
 use crate::checker::{admit, check, owed, Verdict, ABSENT};
+use crate::refinements::grounds;
 
 use super::formulas::{Book, Written};
 use super::notation::{formula, value};
@@ -25,8 +26,9 @@ pub fn show(file: &[u8]) -> String {
     let mut room = [0; ROOM];
     let verdict = check(file, &mut room);
     writeln!(text, "\nVerdict: {verdict}").expect("a string takes any text");
-    let points_at = view.and_then(|view| view.points_at(verdict));
-    for line in words(file, verdict, &room).into_iter().chain(points_at) {
+    let points_at = view.as_ref().and_then(|view| view.points_at(verdict));
+    let rests_on = view.as_ref().and_then(|view| view.rests_on(verdict));
+    for line in words(file, verdict, &room).into_iter().chain(points_at).chain(rests_on) {
         writeln!(text, "  {line}").expect("a string takes any text");
     }
     text
@@ -236,6 +238,17 @@ impl View<'_> {
             "Step" => Some(self.step(at)),
             _ => None,
         }
+    }
+
+    /// A step that cites or supposes: the first premise of the refine step that 28 points at, or one
+    /// on which it rests.
+    fn rests_on(&self, verdict: Verdict) -> Option<String> {
+        let Verdict::Refused { number: 28, place } = verdict else { return None };
+        let case = &self.reading.case;
+        let first = case.steps[place as usize].premises[0];
+        let ground = grounds(case, first).first()?;
+        let how = if ground == first { "is" } else { "rests on" };
+        Some(format!("Its first premise {how} step {}", self.step(ground as usize)))
     }
 }
 

@@ -116,4 +116,4 @@ unfolding outcome ruleOf ruleAt rules rule isAnObligation
 each-use-once s room d r e j k o lj lk rj rk aj ak m =
     let x = reported-pass (finding s (length room)) room d r e in
     let p = finding-proved s (length room) (x .0) (x .1) (x .2) in
-    once-each (caseOf s) (p .0 .proves .fine) lj lk (rw rj, aj) (rw rk, ak) m
+    once-each (caseOf s) (caseOf s .steps) (omega arith) (p .0 .proves .fine) lj lk (rw rj, aj) (rw rk, ak) m

@@ -10,21 +10,22 @@ use Rattle.definition.proofs.ListLaws.{among-append, append-among}
 use Rattle.definition.proofs.PremiseLaws.{Distinct, split-share}
 use Rattle.definition.proofs.RuleLaws.{spends, Small, Tests, followed}
 use Rattle.definition.proofs.Sound.{Discharges}
-use Rattle.definition.proofs.StateMarks.{openAt, opens-at, joined-same}
+use Rattle.definition.proofs.StateMarks.{restsAt, openAt, citesAt, opens-at, joined-same}
 use Rattle.definition.proofs.StepLaws.{Local}
+use Rattle.definition.proofs.Tautologies.{citing-is, cites-from, Paired, CitedIn, of-allowed}
 use Rattle.definition.specs.03-Lists.{Among, Disjoint}
 use Rattle.definition.specs.13-Formulas.{Formula, each-use}
 use Rattle.definition.specs.17-Case.{Case}
 use Rattle.definition.specs.21-Rules.{ruleAt}
 use Rattle.definition.specs.22-Steps.{Labels, opensIn, ruleOf, premisesOf, premiseFormulas, isAnObligation, joined, leaves, share, stateAt}
-use Rattle.definition.specs.42-Account.{bothSets, noLabels, IsStep, LabelsSplit, ObligationsSplit, Follows, Proof, by-rule, no-more, one-more}
+use Rattle.definition.specs.42-Account.{bothSets, noLabels, IsStep, LabelsSplit, ObligationsSplit, Follows, HandedOn, allOpens, allSpent, allSteps, Citing, TreesAllowed, Proof, by-rule, no-more, one-more}
 
 -- what a step of a tree has by itself
 pub record Sure (c : Case) (k : ℕ) : Type 0 where
   pub inside : k < c .steps
   pub earlier : (p : ℕ) → Among p (premisesOf c k) → p < k
   pub distinct : Distinct (premisesOf c k)
-  pub local : Local c (openAt c) k
+  pub local : Local c (restsAt c) k
 
 -- what the steps S have, which spend the obligations U
 pub record Region (c : Case) (U S : List ℕ) : Type 0 where
@@ -89,23 +90,34 @@ add-root c k u U S a s in-S apart spends-it split =
 pub record Grown (c : Case) (k : ℕ) (f : Formula) (M : Labels) (U S : List ℕ) : Type 0 where
   pub formula-is : c .step k .formula ≡ f
   pub opens-is : M ≡ openAt c k
+  pub cited : citesAt c k ≡ true → (x : ℕ) × Among x S × Citing (c .step x .rule)
   pub root : Among k S
   pub low : (x : ℕ) → Among x S → x ≤ k
   pub parent : (x : ℕ) → Among x S → (x ≡ k) ⊎ ((y : ℕ) × Among y S × Among x (premisesOf c y))
   pub region : Region c U S
 
 -- the trees of the premises ps of step k
-record Growing (c : Case) (k : ℕ) (ps : List ℕ) (fs : List Formula) (L : Labels) (U S : List ℕ) : Type 0 where
+record Growing (c : Case) (k : ℕ) (ps : List ℕ) (fs : List Formula) (gs : List HandedOn) : Type 0 where
   formulas-are : map (λ p. c .step p .formula) ps ≡ fs
-  opens-are : L ≡ joined (openAt c) ps
-  roots : (p : ℕ) → Among p ps → Among p S
+  opens-are : allOpens gs ≡ joined (openAt c) ps
+  cited-in : Paired (CitedIn c) gs ps
+  roots : (p : ℕ) → Among p ps → Among p (allSteps gs)
   earlier : (p : ℕ) → Among p ps → p < k
   distinct : Distinct ps
   split : share c (openAt c) ps ≡ false
-  low : (x : ℕ) → Among x S → x < k
-  parent : (x : ℕ) → Among x S → Among x ps ⊎ ((y : ℕ) × Among y S × Among x (premisesOf c y))
-  apart : (x p : ℕ) → Among x S → Among p (premisesOf c x) → Among p ps → ⊥
-  region : Region c U S
+  low : (x : ℕ) → Among x (allSteps gs) → x < k
+  parent : (x : ℕ) → Among x (allSteps gs) → Among x ps ⊎ ((y : ℕ) × Among y (allSteps gs) × Among x (premisesOf c y))
+  apart : (x p : ℕ) → Among x (allSteps gs) → Among p (premisesOf c x) → Among p ps → ⊥
+  region : Region c (allSpent gs) (allSteps gs)
+
+-- where a premise rests on evidence, a step of its tree cites some
+cited-among :
+    (c : Case) (gs : List HandedOn) (ps : List ℕ) → Paired (CitedIn c) gs ps → (p : ℕ) → Among p ps → citesAt c p ≡ true → (x : ℕ) × Among x (allSteps gs) × Citing (c .step x .rule)
+cited-among c [] [] w p m e = absurd m
+cited-among c [] (q ∷ ps) w p m e = absurd w
+cited-among c (g ∷ gs) [] w p m e = absurd w
+cited-among c (g ∷ gs) (q ∷ ps) w p (inl is) e = let h = w .0 .cited (rw (← is) e) in (h .0, among-append (g .steps) (allSteps gs) (h .0) (inl (h .1)), h .2)
+cited-among c (g ∷ gs) (q ∷ ps) w p (inr m) e = let h = cited-among c gs ps (w .1) p m e in (h .0, among-append (g .steps) (allSteps gs) (h .0) (inr (h .1)), h .2)
 
 spends-own : (c : Case) (k r a o : ℕ) → c .step k .rule ≡ r → c .step k .argument ≡ a → Discharges c k o → Among o (spends r a)
 unfolding spends ruleOf
@@ -124,12 +136,13 @@ leaves-at e q p = rw (e, q, p)
 moved-among : (p : ℕ) {xs ys : List ℕ} → xs ≡ ys → Among p xs → Among p ys
 moved-among p e m = subst (λ (l : List ℕ). Among p l) e m
 
-grow-none : (c : Case) (k : ℕ) → Growing c k [] [] noLabels [] []
+grow-none : (c : Case) (k : ℕ) → Growing c k [] [] []
 unfolding joined noLabels share
 grow-none c k =
     record {
       formulas-are = refl;
       opens-are = refl;
+      cited-in = tt;
       roots = λ p m. m;
       earlier = λ p m. absurd m;
       distinct = tt;
@@ -141,15 +154,17 @@ grow-none c k =
     }
 
 grow-more :
-    (c : Case) {k p : ℕ} {f : Formula} {L M : Labels} {ps U W S T : List ℕ} {fs : List Formula} →
-    p < k → Grown c p f L U S → Growing c k ps fs M W T → LabelsSplit c L M → ObligationsSplit c U W → Disjoint S T →
-    Growing c k (p ∷ ps) (f ∷ fs) (bothSets L M) (U ++ W) (S ++ T)
+    (c : Case) {k p : ℕ} {f : Formula} {L : Labels} {ps U S : List ℕ} {fs : List Formula} {gs : List HandedOn} →
+    p < k → Grown c p f L U S → Growing c k ps fs gs → LabelsSplit c L (allOpens gs) → ObligationsSplit c U (allSpent gs) → Disjoint S (allSteps gs) →
+    Growing c k (p ∷ ps) (f ∷ fs) (record { opens = L; spent = U; steps = S } ∷ gs)
 unfolding joined bothSets
-grow-more c {k} {p} {f} {L} {M} {ps} {U} {W} {S} {T} {fs} lt t g ls os ss =
+grow-more c {k} {p} {f} {L} {ps} {U} {S} {fs} {gs} lt t g ls os ss =
+    let T = allSteps gs in
     let at = append-among S T in
     record {
       formulas-are = ap₂ {C = List Formula} _∷_ (t .formula-is) (g .formulas-are);
       opens-are = ap₂ bothSets (t .opens-is) (g .opens-are);
+      cited-in = (record { opens-is = t .opens-is; cited = t .cited }, g .cited-in);
       roots = λ q m. among-append S T q (⊎-elim (λ e. inl (rw e (t .root))) (λ n. inr (g .roots q n)) m);
       earlier = λ q. ⊎-elim (λ e. rw e lt) (g .earlier q);
       distinct = (λ m. ss p (t .root) (g .roots p m), g .distinct);
@@ -167,36 +182,45 @@ grow-more c {k} {p} {f} {L} {M} {ps} {U} {W} {S} {T} {fs} lt t g ls os ss =
           ⊎-elim (λ e. let h = t .region .sure x i .earlier q n in let l = t .low x i in omega arith)
           (λ v. ss q (t .region .whole x q i n) (g .roots q v)) w)
           (λ i. ⊎-elim (λ (e : q ≡ p). ss p (t .root) (rw e at (g .region .whole x q i n))) (λ v. g .apart x q i n v) w) (at x m);
-      region = join-regions c U W S T (t .region) (g .region) os ss;
+      region = join-regions c U (allSpent gs) S T (t .region) (g .region) os ss;
     }
 
 module _ (c : Case) (small : Small c) where
   grow-root :
-      {k r a : ℕ} {f : Formula} {fs : List Formula} {L M : Labels} {ps u U S : List ℕ} →
-      IsStep c k r f a ps → Growing c k ps fs L U S → Follows c r f a fs L M u → ObligationsSplit c u U → Grown c k f M (u ++ U) (k ∷ S)
-  unfolding openAt ruleOf premiseFormulas
-  grow-root {k} {r} {a} {f} {fs} {L} {M} {ps} {u} {U} {S} i g w split =
+      {k r a : ℕ} {f : Formula} {fs : List Formula} {gs : List HandedOn} {M : Labels} {ps u : List ℕ} →
+      IsStep c k r f a ps → Growing c k ps fs gs → Follows c r f a fs (allOpens gs) M u → ObligationsSplit c u (allSpent gs) → TreesAllowed c r gs →
+      Grown c k f M (u ++ allSpent gs) (k ∷ allSteps gs)
+  unfolding restsAt ruleOf premiseFormulas
+  grow-root {k} {r} {a} {f} {fs} {gs} {M} {ps} {u} i g w split allowed =
       let fo = followed c small w in
       let ps-are = i .premises-are in
-      let opens : joined (openAt c) (premisesOf c k) ≡ L = ap (joined (openAt c)) ps-are ∙ sym (g .opens-are) in
+      let opens : joined (openAt c) (premisesOf c k) ≡ allOpens gs = ap (joined (openAt c)) ps-are ∙ sym (g .opens-are) in
       let state-opens : joined (opensIn (stateAt c k)) (premisesOf c k) ≡ joined (openAt c) (premisesOf c k) =
       joined-same (opensIn (stateAt c k)) (openAt c) (premisesOf c k) (λ p m. opens-at c k p (g .earlier p (moved-among p ps-are m))) in
+      let earlier : (p : ℕ) → Among p (premisesOf c k) → p < k = λ p m. g .earlier p (moved-among p ps-are m) in
+      let number : c .step k .rule < 16 = rw (i .rule-is) (fo .number) in
       let sure : Sure c k =
       record {
         inside = i .inside;
-        earlier = λ p m. g .earlier p (moved-among p ps-are m);
+        earlier = earlier;
         distinct = rw ps-are (g .distinct);
         local = record {
-          number = rw (i .rule-is) (fo .number);
+          number = number;
           policy = rw (i .formula-is) (i .policy);
           closed = rw (i .formula-is) (i .closed);
           tests = tests-at (i .rule-is) (i .formula-is) (i .argument-is) (ap (map (λ p. c .step p .formula)) ps-are ∙ g .formulas-are) opens (fo .tests);
           split = rw ps-are (g .split);
+          refines = of-allowed c k gs (rw ps-are (g .cited-in)) (rw (i .rule-is) allowed);
         };
       } in
       record {
         formula-is = i .formula-is;
         opens-is = fo .opens ∙ leaves-at (i .rule-is) (i .argument-is) (state-opens ∙ opens);
+        cited =
+            λ e.
+            ⊎-elim (λ h. (k, inl refl, citing-is (c .step k .rule) number .0 h))
+            (λ q. let m = moved-among (q .0) ps-are (q .1) in let h = cited-among c gs ps (g .cited-in) (q .0) m (q .2) in (h .0, inr (h .1), h .2))
+            (cites-from c k earlier e);
         root = inl refl;
         low = λ x. ⊎-elim (λ e. omega arith) (λ m. let h = g .low x m in omega arith);
         parent =
@@ -204,15 +228,15 @@ module _ (c : Case) (small : Small c) where
             ⊎-elim (λ e. inl e)
             (λ m. inr (⊎-elim (λ q. (k, inl refl, moved-among x (sym ps-are) q)) (λ y. (y .0, inr (y .1), y .2)) (g .parent x m)));
         region =
-            add-root c k u U S (g .region) sure (λ p m. g .roots p (moved-among p ps-are m))
+            add-root c k u (allSpent gs) (allSteps gs) (g .region) sure (λ p m. g .roots p (moved-among p ps-are m))
             (λ x p m n q. g .apart x p m n (moved-among p ps-are q))
             (λ o d. rw (fo .spent) (spends-own c k r a o (i .rule-is) (i .argument-is) d)) split;
       }
 
   pub grown : {k : ℕ} {f : Formula} {M : Labels} {U S : List ℕ} → Proof c k f M U S → Grown c k f M U S
   grown t =
-      elim t as (λ k f M U S x. Grown c k f M U S) (λ k ps fs L U S x. Growing c k ps fs L U S) [
-        | by-rule i (ps → h) w s ↦ grow-root i h w s
+      elim t as (λ k f M U S x. Grown c k f M U S) (λ k ps fs gs x. Growing c k ps fs gs) [
+        | by-rule i (ps → h) w s a ↦ grow-root i h w s a
         | no-more {k} ↦ grow-none c k
         | one-more lt (p → h) (ps → g) ls os ss ↦ grow-more c lt h g ls os ss
       ]

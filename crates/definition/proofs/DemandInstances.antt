@@ -1,4 +1,4 @@
--- The theorems of demands 1 and 2 on desk cases and examples of document 01's table, computed: their hypotheses can be met. Those of demand 3 are met in specs/55-HiddenRows, and the last one here.
+-- The theorems of demands 1 and 2 and of the requests on desk cases and examples of the tables of refusals, computed: their hypotheses can be met. Those of demand 3 are met in specs/55-HiddenRows, and the last one here.
 -- Assumes nothing.
 use Prim.Native.Nat.{ℕ, zero, suc, _<_}
 use mathlib.Core.Bool.{true}
@@ -15,27 +15,29 @@ use Rattle.definition.proofs.CitedLists.{pass-lists}
 use Rattle.definition.proofs.NoneOwed.{none-owed-exactly}
 use Rattle.definition.proofs.PassesExactly.{passes-exactly, refused-for-room}
 use Rattle.definition.proofs.RangeLaws.{all-true}
+use Rattle.definition.proofs.Refining.{same-steps, holds-without-log}
+use Rattle.definition.proofs.RefiningPlaces.{tells-refining}
 use Rattle.definition.proofs.RefusalTable.{refused-by-table}
 use Rattle.definition.proofs.StrayPlaces.{tells-stray, place-by-book}
 use Rattle.definition.proofs.StruckFile.{strikes-unseen}
 use Rattle.definition.specs.01-Words.{absent}
 use Rattle.definition.specs.02-Ranges.{all}
 use Rattle.definition.specs.04-Checks.{single, each, Holds, Fails, AllHold, here, later, accepts}
-use Rattle.definition.specs.13-Formulas.{Formula, each-use, once}
+use Rattle.definition.specs.13-Formulas.{Formula, implies, each-use, once}
 use Rattle.definition.specs.15-Records.{stepFormula}
 use Rattle.definition.specs.17-Case.{caseOf}
-use Rattle.definition.specs.18-Admission.{admissionChecks, admission}
+use Rattle.definition.specs.18-Admission.{Parted, admissionChecks, admission}
 use Rattle.definition.specs.19-Rewriting.{strike}
 use Rattle.definition.specs.22-Steps.{usedIn, premisesOf, misshapen, badPremises, stepChecks, stateAt}
 use Rattle.definition.specs.31-Outcome.{lastStep, unusedStep, openLabel, owingChecks, finalState, refused, outcome}
 use Rattle.definition.specs.42-Account.{Owes}
 use Rattle.definition.specs.44-Demands.{StepsHold, InTable, in-step, in-end, Passes, Justified, Needs, Lists, HeaderOfBytes}
-use Rattle.definition.specs.46-Requests.{StrayTold}
+use Rattle.definition.specs.46-Requests.{StrayTold, RefiningTold, AccountOf, RefinesWithoutLog}
 use Rattle.definition.specs.51-Files.{createsRow}
 use Rattle.definition.specs.52-Evaluation.{evaluated}
 use Rattle.definition.specs.53-Desk.{lent, grantWith, grant, visit, twice, built}
 use Rattle.definition.specs.56-SeenRows.{fourRows, rows-admitted}
-use Rattle.definition.specs.58-Table.{grantByte, grantAnd, laterPremise, supposedOwed, stray, builtTable}
+use Rattle.definition.specs.58-Table.{grantByte, grantAnd, laterPremise, supposedOwed, stray, line, reasoned, refiningBy, refining, tautologyAt, nested, builtTable}
 
 -- Demand 1: what a refusal by 2, 4, 13, 17, 21 and 23 says.
 pub part-told : InTable (grantByte 4 35) 3 2 0
@@ -88,7 +90,38 @@ pub one-row-told : (p q : ℕ) → StrayTold (stray 5 (2 ∷ []) 14) p → Stray
 unfolding builtTable
 one-row-told p q a b =
     place-by-book (stray 5 (2 ∷ []) 14) (stray 5 (0 ∷ []) 14) p q a b refl
-    (first-formula (a .step) (a .there) (a .owner) ∙ sym (second-formula (b .step) (b .there) (b .owner)))
+    (first-formula (a .step) (a .at .there) (a .owner) ∙ sym (second-formula (b .step) (b .at .there) (b .owner)))
+
+-- A refusal by 28: at the outer of two steps, for a row far above.
+pub refining-told : RefiningTold (nested (line 2 1 0 [])) 9
+unfolding builtTable
+refining-told = tells-refining (nested (line 2 1 0 [])) lent 9 refl
+
+-- What a step refines by holds without the log: a case that refines by a tautology passes, and step 4, the first premise of step 5, is an account in the file without log, readings and obligations.
+pub refines-by : RefinesWithoutLog (refining (tautologyAt 2)) 5
+unfolding builtTable
+refines-by = holds-without-log (refining (tautologyAt 2)) lent (0, 1, refl) 5 (omega arith) refl
+
+abbrev bare : List ℕ
+bare = reasoned 7 [] [] [] [] (refiningBy (tautologyAt 2))
+
+full-parted : Parted (refining (tautologyAt 2))
+unfolding builtTable
+full-parted = admitted-parted (refining (tautologyAt 2)) refl
+
+bare-parted : Parted bare
+unfolding builtTable
+bare-parted = admitted-parted bare refl
+
+first-is : refines-by .refines .first ≡ 4
+unfolding builtTable
+first-is = let e : 4 ∷ 1 ∷ [] ≡ refines-by .refines .first ∷ refines-by .refines .second ∷ [] = refines-by .refines .premises-are in cc
+
+pub holds-in-bare : AccountOf (caseOf bare) (refines-by .refines .first) (implies (refines-by .refines .from) (refines-by .refines .to)) (refines-by .steps)
+unfolding builtTable
+holds-in-bare =
+    refines-by .account bare (record { parted = bare-parted; agent = refl; formulas = refl; labels = refl })
+    (same-steps (refining (tautologyAt 2)) bare full-parted bare-parted refl refl refl (refines-by .steps) (λ j m. omega (arith, refines-by .above j m, first-is)))
 
 -- The other way: checks 1 to 11 and all of step 0 hold, at step 1 check 12 holds and 13 fails; so 13 is told, with step 1.
 pub premise-fails : InTable laterPremise 3 13 1

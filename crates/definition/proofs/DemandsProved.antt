@@ -7,12 +7,14 @@ use Rattle.definition.proofs.OwnNumbers as own
 use Rattle.definition.proofs.StrayPlaces as strays
 use Rattle.definition.proofs.PassesExactly as account
 use Rattle.definition.proofs.Findings as order
+use Rattle.definition.proofs.Refining as refining
+use Rattle.definition.proofs.RefiningPlaces as places
 use Rattle.definition.proofs.RefusalTable as table
 use Rattle.definition.proofs.RoomLaws as room
 use Rattle.definition.proofs.StruckFile as struck
 use Rattle.definition.proofs.UnseenRows as unseen
 use Rattle.definition.specs.44-Demands.{RefusalKeepsRoom, NoneOwedKeepsRoom, PassKeepsRest, FirstIsTold, RefusedByTable, StepIsPlace, PassesExactly, RefusedForRoom, NoneOwedExactly, PassLists, EachUseOnce, UnseenRowsAreUnseen, AsIfStruck, StrikesUnseen, OneMeaningOneNumber}
-use Rattle.definition.specs.46-Requests.{NumbersAlone, FitsAsBefore, TellsStray, PlaceByBook, StraysAlone}
+use Rattle.definition.specs.46-Requests.{NumbersAlone, FitsAsBefore, TellsStray, PlaceByBook, StraysAlone, TellsRefining, RefiningsAlone, HoldsWithoutLog}
 
 pub record Demand1 : Type 0 where
   pub refusal-keeps-room : RefusalKeepsRoom
@@ -42,6 +44,11 @@ pub record Request1 : Type 0 where
 pub record Request2 : Type 0 where
   pub tells-stray : TellsStray
   pub strays-alone : StraysAlone
+
+pub record Request3 : Type 0 where
+  pub holds-without-log : HoldsWithoutLog
+  pub tells-refining : TellsRefining
+  pub refinings-alone : RefiningsAlone
 
 pub demand-1 : Demand1
 demand-1 =
@@ -81,3 +88,6 @@ request-1 = record { numbers-alone = own.numbers-alone; fits-as-before = misfits
 
 pub request-2 : Request2
 request-2 = record { tells-stray = strays.tells-stray; strays-alone = own.strays-alone }
+
+pub request-3 : Request3
+request-3 = record { holds-without-log = refining.holds-without-log; tells-refining = places.tells-refining; refinings-alone = own.refinings-alone }

@@ -23,6 +23,7 @@ pub mod ConclusionLaws
 pub mod RuleLaws
 pub mod MisfitLaws
 pub mod StepLaws
+pub mod Tautologies
 pub mod OwnNumbers
 pub mod StrayLaws
 pub mod StrayPlaces
@@ -33,6 +34,8 @@ pub mod RefusalTable
 pub mod Passes
 pub mod CitedLists
 pub mod PassesExactly
+pub mod Refining
+pub mod RefiningPlaces
 pub mod NoneOwed
 pub mod RoomLaws
 pub mod TextLaws

@@ -1,4 +1,4 @@
--- What requests 1 and 2 leave as it was: a run of all checks without theirs ends as the run with them, in a relation that each request states. Group by group, by appending; the checks of how a step fits are given. Assumes nothing.
+-- What requests 1 to 3 leave as it was: a run of all checks without theirs ends as the run with them, in a relation that each request states. Group by group, by appending; the checks that the requests are about are given. Assumes nothing.
 use Prim.Native.Nat.{ℕ, zero, suc, _+_}
 use mathlib.Core.Path.{_≡_, refl, sym, ap}
 use mathlib.Core.Bool.{Bool, true, false, cond, _||_}
@@ -19,30 +19,31 @@ use Rattle.definition.specs.15-Records.{logChecks, recordChecks}
 use Rattle.definition.specs.17-Case.{Case, caseOf}
 use Rattle.definition.specs.18-Admission.{checksToLog, admissionChecks}
 use Rattle.definition.specs.21-Rules.{noInstance, rule, rules, ruleAt}
-use Rattle.definition.specs.22-Steps.{State, ruleOf, next, startState, citationChecks, shapeChecks, useChecks, misfitChecks, fitChecks, stepChecks, checksOfSteps, strayVariable, wrongKind, wrongParty, wrongInstance, misfit, notFresh}
+use Rattle.definition.specs.22-Steps.{State, restsIn, ruleOf, next, startState, citationChecks, shapeChecks, aboveChecks, useChecks, misfitChecks, fitChecks, stepChecks, checksOfSteps, strayVariable, wrongKind, wrongParty, wrongInstance, misfit, notFresh, noTautology}
 use Rattle.definition.specs.31-Outcome.{Finding, justified, nothing-owed, owes, owingChecks, closingChecks, roomChecks, endChecks, finalState, proofChecks, checksIfOwed, caseChecks, allChecks, found, finding, report, outcome}
-use Rattle.definition.specs.46-Requests.{without, isMisfitNumber, numberBefore, findingWithout, outcomeWithout, verdictBefore, asBefore, NumbersAlone, isStrayNumber, StraysAlone}
+use Rattle.definition.specs.46-Requests.{without, isMisfitNumber, numberBefore, findingWithout, outcomeWithout, verdictBefore, asBefore, NumbersAlone, isStrayNumber, StraysAlone, isRefiningNumber, RefiningsAlone}
 
 kept-or-not : (c : Check) (xs ys zs : List Check) (b : Bool) → zs ≡ xs ++ ys → cond b zs (c ∷ zs) ≡ cond b xs (c ∷ xs) ++ ys
 kept-or-not c xs ys zs true e = e
 kept-or-not c xs ys zs false e = ap {B = List Check} (λ l. c ∷ l) e
 
--- The checks of how a step fits, by number.
-isFit : ℕ → Bool
-isFit n = eqb n 27 || eqb n 24 || eqb n 25 || eqb n 26 || eqb n 18
+-- The checks that the requests are about, by number: of how a step fits, and of what it refines by.
+isRequested : ℕ → Bool
+isRequested n = eqb n 28 || eqb n 27 || eqb n 24 || eqb n 25 || eqb n 26 || eqb n 18
 
-hasFit : List Check → Bool
-hasFit [] = false
-hasFit (c ∷ cs) = isFit (numberOf c) || hasFit cs
+-- Has a check of the list such a number?
+hasOne : (ℕ → Bool) → List Check → Bool
+hasOne is [] = false
+hasOne is (c ∷ cs) = is (numberOf c) || hasOne is cs
 
--- What a request says of two runs, the first with its checks and the second without: it passes to one run after another, and a check that is of no fit is kept, and ends alike.
+-- What a request says of two runs, the first with its checks and the second without: it passes to one run after another, and a check that is not left out ends alike. Only checks that a request is about are.
 record Request : Type 1 where
   leftOut : ℕ → Bool
   Alike : {A : Type 0} → Checked A → Checked A → Type 0
   then : {A B : Type 0} {a b : Checked A} {x y : Checked B} → Alike a b → Alike x y → Alike (_>>_ a x) (_>>_ b y)
   over : {A : Type 0} (x : A) → Alike (accepts x) (accepts x)
-  kept : (n : ℕ) → isFit n ≡ false → leftOut n ≡ false
-  other : (n p : ℕ) (b : Bool) → isFit n ≡ false → Alike (check n p b) (check n p b)
+  requested : (n : ℕ) → isRequested n ≡ false → leftOut n ≡ false
+  kept : (n p : ℕ) (b : Bool) → leftOut n ≡ false → Alike (check n p b) (check n p b)
 
 module _ (q : Request) where
   abbrev EndsAlike : List Check → Type 0
@@ -56,42 +57,59 @@ module _ (q : Request) where
   alike-both : (cs ds : List Check) → EndsAlike cs → EndsAlike ds → EndsAlike (cs ++ ds)
   alike-both cs ds h k = rw (EndsAlike, without-append cs ds, in-order-append (without (q .leftOut) cs) (without (q .leftOut) ds), in-order-append cs ds) (q .then h k)
 
-  kept-try : (c : Check) → isFit (numberOf c) ≡ false → q .Alike (try c) (try c)
+  kept-try : (c : Check) → q .leftOut (numberOf c) ≡ false → q .Alike (try c) (try c)
   unfolding try
-  kept-try (single n p fault) e = q .other n p fault e
-  kept-try (each n count fault) e = rw (try-each n count fault) (q .other n _ _ e)
+  kept-try (single n p fault) e = q .kept n p fault e
+  kept-try (each n count fault) e = rw (try-each n count fault) (q .kept n _ _ e)
 
-  -- A list without any check of how a step fits.
-  alike-none : (cs : List Check) → hasFit cs ≡ false → EndsAlike cs
-  unfolding hasFit without inOrder
-  alike-none [] e = q .over tt
-  alike-none (c ∷ cs) e =
-      let h = or-false _ _ e in
-      rw (EndsAlike, q .kept (numberOf c) (h .0)) (q .then (kept-try c (h .0)) (alike-none cs (h .1)))
+  -- A list of which no check is left out, and one without any check that a request is about.
+  alike-kept : (cs : List Check) → hasOne (q .leftOut) cs ≡ false → EndsAlike cs
+  unfolding hasOne without inOrder
+  alike-kept [] e = q .over tt
+  alike-kept (c ∷ cs) e =
+      let h = or-false (q .leftOut (numberOf c)) (hasOne (q .leftOut) cs) e in
+      rw (EndsAlike, h .0) (q .then (kept-try c (h .0)) (alike-kept cs (h .1)))
 
-  module _ (c : Case) (fits : (k : ℕ) → EndsAlike (fitChecks c k)) where
+  none-out : (cs : List Check) → hasOne isRequested cs ≡ false → hasOne (q .leftOut) cs ≡ false
+  unfolding hasOne
+  none-out [] e = refl
+  none-out (c ∷ cs) e = let h = or-false (isRequested (numberOf c)) (hasOne isRequested cs) e in rw (q .requested (numberOf c) (h .0)) (none-out cs (h .1))
+
+  alike-none : (cs : List Check) → hasOne isRequested cs ≡ false → EndsAlike cs
+  alike-none cs e = alike-kept cs (none-out cs e)
+
+  -- The checks of a step that the requests are about end alike.
+  record StepAlike (c : Case) : Type 0 where
+    fits : (k : ℕ) → EndsAlike (fitChecks c k)
+    refines : (k : ℕ) (s : State) → EndsAlike (single 28 k (noTautology c (restsIn s) k) ∷ [])
+
+  module _ (c : Case) (alike : StepAlike c) where
+    alike-above : (k : ℕ) (s : State) → EndsAlike (aboveChecks c k s)
+    unfolding aboveChecks hasOne isRequested
+    alike-above k s = alike-both (single 19 k (notFresh c s k) ∷ []) (single 28 k (noTautology c (restsIn s) k) ∷ []) (alike-none (single 19 k (notFresh c s k) ∷ []) refl) (alike .refines k s)
+
     alike-step : (k : ℕ) (s : State) → EndsAlike (stepChecks c k s)
-    unfolding stepChecks shapeChecks citationChecks useChecks hasFit isFit
+    unfolding stepChecks shapeChecks citationChecks useChecks hasOne isRequested
     alike-step k s =
         alike-both (shapeChecks c k s) (useChecks c k s) (alike-none (shapeChecks c k s) refl)
-        (alike-both (single 17 k _ ∷ []) _ (alike-none (single 17 k _ ∷ []) refl) (alike-both (fitChecks c k) (single 19 k (notFresh c s k) ∷ []) (fits k) (alike-none (single 19 k (notFresh c s k) ∷ []) refl)))
+        (alike-both (single 17 k _ ∷ []) _ (alike-none (single 17 k _ ∷ []) refl) (alike-both (fitChecks c k) (aboveChecks c k s) (alike .fits k) (alike-above k s)))
 
     alike-steps : (left k : ℕ) (s : State) → EndsAlike (checksOfSteps c left k s)
-    unfolding checksOfSteps hasFit
+    unfolding checksOfSteps hasOne
     alike-steps zero k s = alike-none [] refl
     alike-steps (suc left) k s = alike-both (stepChecks c k s) _ (alike-step k s) (alike-steps left (k + 1) (next c k s))
 
     alike-owed : (o : Option Formula) (room : ℕ) → EndsAlike (checksIfOwed o c room)
-    unfolding checksIfOwed proofChecks endChecks closingChecks roomChecks hasFit isFit
+    unfolding checksIfOwed proofChecks endChecks closingChecks roomChecks hasOne isRequested
     alike-owed none room = alike-none [] refl
     alike-owed (some f) room = alike-both (checksOfSteps c (c .steps) 0 startState) _ (alike-steps (c .steps) 0 startState) (alike-none (endChecks c (finalState c) room) refl)
 
-  module _ (s : List ℕ) (fits : (k : ℕ) → EndsAlike (fitChecks (caseOf s) k)) where
+  module _ (s : List ℕ) (alike : StepAlike (caseOf s)) where
     alike-all : (room : ℕ) → EndsAlike (allChecks s room)
-    unfolding allChecks caseChecks owingChecks admissionChecks checksToLog layoutChecks bookChecks logChecks recordChecks hasFit isFit
+    unfolding allChecks caseChecks owingChecks admissionChecks checksToLog layoutChecks bookChecks logChecks recordChecks hasOne isRequested
     alike-all room =
         alike-both (admissionChecks s) (caseChecks (caseOf s) room) (alike-none (admissionChecks s) refl)
-        (alike-both (owingChecks (caseOf s)) (checksIfOwed (owes (caseOf s)) (caseOf s) room) (alike-none (owingChecks (caseOf s)) refl) (alike-owed (caseOf s) fits (owes (caseOf s)) room))
+        (alike-both (owingChecks (caseOf s)) (checksIfOwed (owes (caseOf s)) (caseOf s) room) (alike-none (owingChecks (caseOf s)) refl) (alike-owed (caseOf s) alike (owes (caseOf s)) room))
 
     alike-finding : (room : ℕ) → q .Alike (finding s room) (findingWithout (q .leftOut) s room)
     unfolding finding findingWithout
@@ -107,14 +125,27 @@ unfolding before _>>_
 then-before (accepts x) b = refl
 then-before (refuses n p) b = refl
 
-kept-misfit : (n : ℕ) → isFit n ≡ false → isMisfitNumber n ≡ false
-unfolding isFit isMisfitNumber
-kept-misfit n e =
+-- No number that a request is about.
+record NotRequested (n : ℕ) : Type 0 where
+  not-28 : eqb n 28 ≡ false
+  not-27 : eqb n 27 ≡ false
+  not-24 : eqb n 24 ≡ false
+  not-25 : eqb n 25 ≡ false
+  not-26 : eqb n 26 ≡ false
+
+not-requested : (n : ℕ) → isRequested n ≡ false → NotRequested n
+unfolding isRequested
+not-requested n e =
     let a = or-false _ (eqb n 18) e in
     let b = or-false _ (eqb n 26) (a .0) in
     let c = or-false _ (eqb n 25) (b .0) in
-    let d = or-false (eqb n 27) (eqb n 24) (c .0) in
-    rw (d .1, c .1, b .1)
+    let d = or-false _ (eqb n 24) (c .0) in
+    let f = or-false (eqb n 28) (eqb n 27) (d .0) in
+    record { not-28 = f .0; not-27 = f .1; not-24 = d .1; not-25 = c .1; not-26 = b .1 }
+
+requested-misfit : (n : ℕ) → isRequested n ≡ false → isMisfitNumber n ≡ false
+unfolding isMisfitNumber
+requested-misfit n e = let h = not-requested n e in rw (h .not-24, h .not-25, h .not-26)
 
 same-number : (n p : ℕ) (b : Bool) → isMisfitNumber n ≡ false → check n p b ≡ before (check n p b)
 unfolding check before numberBefore
@@ -129,8 +160,8 @@ request-1 =
       Alike = λ a b. b ≡ before a;
       then = λ {A} {B} {a} {b} {x} {y} h k. rw (h, k) (sym (then-before a x));
       over = λ x. refl;
-      kept = kept-misfit;
-      other = λ n p b e. same-number n p b (kept-misfit n e);
+      requested = requested-misfit;
+      kept = same-number;
     }
 
 -- Where one of the three fails, so does 18.
@@ -144,16 +175,15 @@ fit-alike k false true inst true h = refl
 fit-alike k false false true true h = refl
 fit-alike k false false false true h = refl
 
-one-alike : (p : ℕ) (b : Bool) → EndsAlike request-1 (single 27 p b ∷ [])
-unfolding request-1 without isMisfitNumber inOrder _>>_ try check before numberBefore
-one-alike p true = refl
-one-alike p false = refl
-
 alike-fit : (c : Case) (k : ℕ) → EndsAlike request-1 (fitChecks c k)
-unfolding fitChecks misfitChecks
+unfolding fitChecks misfitChecks request-1 hasOne isMisfitNumber
 alike-fit c k =
-    alike-both request-1 (single 27 (c .step k .stray) (strayVariable c k) ∷ []) (misfitChecks c k) (one-alike _ _)
+    alike-both request-1 (single 27 (c .step k .stray) (strayVariable c k) ∷ []) (misfitChecks c k) (alike-kept request-1 (single 27 _ _ ∷ []) refl)
     (fit-alike k (wrongKind c k) (wrongParty c k) (wrongInstance c k) (misfit c k) (λ e. let w = fit-checks c k .1 e .1 in (w .0, (w .1 .0, (w .1 .1 .0, tt)))))
+
+alike-1 : (c : Case) → StepAlike request-1 c
+unfolding request-1 hasOne isMisfitNumber
+alike-1 c = record { fits = alike-fit c; refines = λ k s. alike-kept request-1 (single 28 k _ ∷ []) refl }
 
 reported : (x : Checked Finding) (room : List ℕ) → report (before x) room ≡ asBefore (report x room)
 unfolding before report verdictBefore asBefore
@@ -163,7 +193,7 @@ reported (refuses n p) room = refl
 
 pub numbers-alone : NumbersAlone
 unfolding request-1 outcomeWithout outcome
-numbers-alone s room = rw (alike-finding request-1 s (alike-fit (caseOf s)) (length room)) (reported (finding s (length room)) room)
+numbers-alone s room = rw (alike-finding request-1 s (alike-1 (caseOf s)) (length room)) (reported (finding s (length room)) room)
 
 -- Request 2: both runs end alike, or 27 refuses, and without it another check of how the owner step fits does.
 record WasFit (c : Case) {A : Type 0} (a b : Checked A) : Type 0 where
@@ -186,19 +216,16 @@ module _ (c : Case) where
   then-fit (refuses n p) b x y (inl e) h = inl (rw e)
   then-fit a b x y (inr w) h = inr (record { row = w .row; number = w .number; step = w .step; with = rw (w .with); without = rw (w .without); misfits = w .misfits; owner = w .owner; told = w .told })
 
-  kept-stray : (n : ℕ) → isFit n ≡ false → isStrayNumber n ≡ false
-  unfolding isFit isStrayNumber
-  kept-stray n e = or-false _ (eqb n 24) (or-false _ (eqb n 25) (or-false _ (eqb n 26) (or-false _ (eqb n 18) e .0) .0) .0) .0
-
   request-2 : Request
+  unfolding isStrayNumber
   request-2 =
       record {
         leftOut = isStrayNumber;
         Alike = λ a b. SameOrFit a b;
         then = λ {A} {B} {a} {b} {x} {y} h k. then-fit a b x y h k;
         over = λ x. inl refl;
-        kept = kept-stray;
-        other = λ n p b e. inl refl;
+        requested = λ n e. not-requested n e .not-27;
+        kept = λ n p b e. inl refl;
       }
 
   module _ (k : ℕ) where
@@ -228,9 +255,48 @@ module _ (c : Case) where
         let w = some-misfit (wrongKind c k) (wrongParty c k) in
         rw (EndsAlike, e, stray-misfits e, owner-instance (stray-owner e)) (inr (record { row = c .step k .stray; number = w .0; step = k; with = refl; without = w .1; misfits = w .2; owner = stray-owner e; told = refl }))
 
+  alike-2 : StepAlike request-2 c
+  unfolding request-2 hasOne isStrayNumber
+  alike-2 = record { fits = λ k. stray-fit k (strayVariable c k) refl; refines = λ k s. alike-kept request-2 (single 28 k _ ∷ []) refl }
+
 pub strays-alone : StraysAlone
 unfolding request-2 outcomeWithout outcome report
 strays-alone s room =
     ⊎-elim (λ e. inl (rw e))
     (λ w. inr (record { row = w .row; number = w .number; step = w .step; with = rw (w .with); without = rw (w .without); misfits = w .misfits; owner = w .owner; told = w .told }))
-    (alike-finding (request-2 (caseOf s)) s (λ k. stray-fit (caseOf s) k (strayVariable (caseOf s) k) refl) (length room))
+    (alike-finding (request-2 (caseOf s)) s (alike-2 (caseOf s)) (length room))
+
+-- Request 3: both runs end alike, or 28 refuses.
+abbrev SameOrRefused : {A : Type 0} → Checked A → Checked A → Type 0
+SameOrRefused a b = (b ≡ a) ⊎ ((k : ℕ) × (a ≡ refuses 28 k))
+
+then-refused : {A B : Type 0} (a b : Checked A) (x y : Checked B) → SameOrRefused a b → SameOrRefused x y → SameOrRefused (_>>_ a x) (_>>_ b y)
+unfolding _>>_
+then-refused (accepts v) b x y (inl e) h = rw e h
+then-refused (refuses n p) b x y (inl e) h = inl (rw e)
+then-refused a b x y (inr w) h = inr (w .0, rw (w .1))
+
+request-3 : Request
+unfolding isRefiningNumber
+request-3 =
+    record {
+      leftOut = isRefiningNumber;
+      Alike = λ a b. SameOrRefused a b;
+      then = λ {A} {B} {a} {b} {x} {y} h k. then-refused a b x y h k;
+      over = λ x. inl refl;
+      requested = λ n e. not-requested n e .not-28;
+      kept = λ n p b e. inl refl;
+    }
+
+refining : (k : ℕ) (b : Bool) → EndsAlike request-3 (single 28 k b ∷ [])
+unfolding request-3 isRefiningNumber without inOrder _>>_ try check
+refining k false = inl refl
+refining k true = inr (k, refl)
+
+alike-3 : (c : Case) → StepAlike request-3 c
+unfolding request-3 isRefiningNumber hasOne fitChecks misfitChecks
+alike-3 c = record { fits = λ k. alike-kept request-3 (fitChecks c k) refl; refines = λ k s. refining k (noTautology c (restsIn s) k) }
+
+pub refinings-alone : RefiningsAlone
+unfolding request-3 outcomeWithout outcome report
+refinings-alone s room = ⊎-elim (λ e. inl (rw e)) (λ w. inr (w .0, rw (w .1))) (alike-finding request-3 s (alike-3 (caseOf s)) (length room))

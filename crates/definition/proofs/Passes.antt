@@ -21,7 +21,7 @@ use Rattle.definition.specs.15-Records.{logChecks, recordChecks}
 use Rattle.definition.specs.17-Case.{Case, caseOf}
 use Rattle.definition.specs.18-Admission.{checksToLog, admissionChecks, admission}
 use Rattle.definition.specs.21-Rules.{isThat}
-use Rattle.definition.specs.22-Steps.{opensIn, usedIn, startState, citationChecks, misfitChecks, fitChecks, shapeChecks, useChecks, stepChecks, checksOfSteps, stateAt}
+use Rattle.definition.specs.22-Steps.{opensIn, usedIn, startState, citationChecks, misfitChecks, fitChecks, shapeChecks, aboveChecks, useChecks, stepChecks, checksOfSteps, stateAt}
 use Rattle.definition.specs.31-Outcome.{justified, owes, isOwed, hasSteps, noProof, needlessProof, lastStep, unusedStep, openLabel, wrongEnd, dischargedList, citedList, needed, shortRoom, owingChecks, closingChecks, roomChecks, endChecks, finalState, proofChecks, checksIfOwed, caseChecks, allChecks, foundIfOwed, found, finding}
 use Rattle.definition.specs.44-Demands.{StepsHold, InTable, in-admission, in-owing, in-step, in-end}
 
@@ -88,7 +88,7 @@ module _ (s : List ℕ) where
 
   -- Check 23 was the first to fail.
   pub short-proved : (m n : ℕ) → InTable s m 23 n → Proved s × (entries s ≡ n) × (m < n)
-  unfolding checksToLog admissionChecks layoutChecks bookChecks logChecks recordChecks owingChecks stepChecks shapeChecks useChecks citationChecks misfitChecks fitChecks closingChecks roomChecks endChecks shortRoom entries
+  unfolding checksToLog admissionChecks layoutChecks bookChecks logChecks recordChecks owingChecks stepChecks shapeChecks aboveChecks useChecks citationChecks misfitChecks fitChecks closingChecks roomChecks endChecks shortRoom entries
   short-proved m n (in-admission f) = other-number (admissionChecks s) refl f
   short-proved m n (in-owing a f) = other-number (owingChecks c) refl f
   short-proved m n (in-step {k = k} a o lt before f) = other-number (stepChecks c k (stateAt c k)) refl f

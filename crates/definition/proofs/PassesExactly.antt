@@ -17,8 +17,9 @@ use Rattle.definition.proofs.CitedLists.{needs-entries, needs-only}
 use Rattle.definition.proofs.PremiseLaws.{share-same}
 use Rattle.definition.proofs.RuleLaws.{Small}
 use Rattle.definition.proofs.Sound.{tree, reaches}
-use Rattle.definition.proofs.StateMarks.{used-before, before-used, cited-before, openAt, opens-at, joined-same}
+use Rattle.definition.proofs.StateMarks.{used-before, before-used, cited-before, restsAt, openAt, rests-at, opens-at, joined-same}
 use Rattle.definition.proofs.StepLaws.{Local, fine-parts, parts-fine, spans-adjoin, adjoin-spans}
+use Rattle.definition.proofs.Tautologies.{tautology-same}
 use Rattle.definition.proofs.Tests.{not-both, never-true}
 use Rattle.definition.specs.03-Lists.{Among}
 use Rattle.definition.specs.04-Checks.{accepts}
@@ -26,7 +27,7 @@ use Rattle.definition.specs.11-Layout.{mostRecords, condition-part, log-
 use Rattle.definition.specs.13-Formulas.{Formula}
 use Rattle.definition.specs.17-Case.{Case, caseOf}
 use Rattle.definition.specs.18-Admission.{admission}
-use Rattle.definition.specs.22-Steps.{Labels, opensIn, startState, next, premisesOf, isAnObligation, stateAt}
+use Rattle.definition.specs.22-Steps.{Labels, restsIn, opensIn, startState, next, premisesOf, isAnObligation, stateAt}
 use Rattle.definition.specs.31-Outcome.{owes, lastStep, dischargedList, citedList, finalState, finding, report, outcome}
 use Rattle.definition.specs.42-Account.{Account}
 use Rattle.definition.specs.44-Demands.{StepsHold, Justified, PassesExactly, RefusedForRoom}
@@ -42,7 +43,7 @@ proves-account c f p =
     let last = lastStep c in
     let is : last + 1 ≡ c .steps = last-step c (p .some-step) in
     let inside : last < c .steps = omega arith in
-    let t = tree c (p .fine) (c .steps) last inside inside in
+    let t = tree c (c .steps) (omega arith) (p .fine) (c .steps) last inside inside in
     record {
       some-step = p .some-step;
       spans = spans-adjoin c (λ k lt. fine-parts c k (stateAt c k) (p .fine k lt) .span);
@@ -51,7 +52,7 @@ proves-account c f p =
       steps = t .steps;
       proof = rw (p .last-is) at (t .proof);
       none-open = λ l lt o. not-both o (ap (λ (L : Labels). L l) (sym (opens-at c (c .steps) last inside)) ∙ p .none-open l lt);
-      all-used = λ k lt. t .whole k (reaches c (p .fine) last is (p .used) last k (omega arith) lt);
+      all-used = λ k lt. t .whole k (reaches c (c .steps) (omega arith) (p .fine) last is (p .used) last k (omega arith) lt);
     }
 
 -- steps without fault from an account
@@ -59,10 +60,13 @@ module _ (c : Case) (f : Formula) (small : Small c) (a : Account c f) where
   whole : Grown c (c .steps - 1) f (a .opens) (a .spent) (a .steps)
   whole = grown c small (a .proof)
 
-  opens-same : (k : ℕ) → k < c .steps → (p : ℕ) → Among p (premisesOf c k) → openAt c p ≡ opensIn (stateAt c k) p
-  opens-same k lt p m = sym (opens-at c k p (whole .region .sure k (a .all-used k lt) .earlier p m))
+  rests-same : (k : ℕ) → k < c .steps → (p : ℕ) → Among p (premisesOf c k) → restsAt c p ≡ restsIn (stateAt c k) p
+  rests-same k lt p m = sym (rests-at c k p (whole .region .sure k (a .all-used k lt) .earlier p m))
 
-  local-now : (k : ℕ) → k < c .steps → Local c (opensIn (stateAt c k)) k
+  opens-same : (k : ℕ) → k < c .steps → (p : ℕ) → Among p (premisesOf c k) → openAt c p ≡ opensIn (stateAt c k) p
+  opens-same k lt p m = ap (λ r. r .opens) (rests-same k lt p m)
+
+  local-now : (k : ℕ) → k < c .steps → Local c (restsIn (stateAt c k)) k
   local-now k lt =
       let l = whole .region .sure k (a .all-used k lt) .local in
       record {
@@ -71,6 +75,7 @@ module _ (c : Case) (f : Formula) (small : Small c) (a : Account c f) where
         closed = l .closed;
         tests = tests-at refl refl refl refl (sym (joined-same (openAt c) (opensIn (stateAt c k)) (premisesOf c k) (opens-same k lt))) (l .tests);
         split = share-same c (openAt c) (opensIn (stateAt c k)) (premisesOf c k) (opens-same k lt) (l .split);
+        refines = rw (tautology-same c (restsAt c) (restsIn (stateAt c k)) k (rests-same k lt)) at (l .refines);
       }
 
   account-fine : StepsHold c (c .steps)
@@ -118,7 +123,7 @@ module _ (c : Case) (f : Formula) (small : Small c) (a : Account c f) where
         last-is = whole .formula-is;
       }
 
-case-small : (s : List ℕ) → admission s ≡ accepts tt → Small (caseOf s)
+pub case-small : (s : List ℕ) → admission s ≡ accepts tt → Small (caseOf s)
 unfolding caseOf mostRecords
 case-small s e =
     let f = admitted-parted s e in

@@ -11,7 +11,7 @@ use native.Mathlib.Omega.{arith}
 use lib.ListN.{length}
 use lib.Dec.{eqb}
 use borrow.Author.Tests.{ltb-true, ltb-false, eqb-true, eq-eqb, not-false}
-use Rattle.definition.proofs.CheckLaws.{by-number, fault-either, fault-before, fault-behind, other-number}
+use Rattle.definition.proofs.CheckLaws.{by-number, fault-either, fault-before, fault-behind, hasNumber, other-number}
 use Rattle.definition.proofs.Tests.{not-both}
 use Rattle.definition.proofs.Findings.{first-is-told}
 use Rattle.definition.proofs.States.{state-next, Fine, fine-steps, steps-fine}
@@ -19,9 +19,10 @@ use Rattle.definition.specs.04-Checks.{Check, single, each, AllHold, Fir
 use Rattle.definition.specs.13-Formulas.{Formula}
 use Rattle.definition.specs.17-Case.{Case, caseOf}
 use Rattle.definition.specs.18-Admission.{admissionChecks}
-use Rattle.definition.specs.22-Steps.{startState, next, citationChecks, misfitChecks, fitChecks, shapeChecks, useChecks, stepChecks, checksOfSteps, stateAt}
-use Rattle.definition.specs.31-Outcome.{owes, isOwed, hasSteps, noProof, needlessProof, owingChecks, endChecks, finalState, proofChecks, checksIfOwed, caseChecks, allChecks}
+use Rattle.definition.specs.22-Steps.{startState, next, citationChecks, misfitChecks, fitChecks, shapeChecks, aboveChecks, useChecks, stepChecks, checksOfSteps, stateAt}
+use Rattle.definition.specs.31-Outcome.{owes, isOwed, hasSteps, noProof, needlessProof, owingChecks, endChecks, finalState, proofChecks, checksIfOwed, caseChecks, allChecks, refused, outcome}
 use Rattle.definition.specs.44-Demands.{InTable, in-admission, in-owing, in-step, in-end, RefusedByTable, StepIsPlace}
+use Rattle.definition.specs.46-Requests.{RefusedAt}
 
 -- The first fault of the steps from i on, of which `left` are left, is at one of them, and the steps before it are without fault.
 record AtStep (c : Case) (left i n p : ℕ) : Type 0 where
@@ -119,6 +120,19 @@ refused-by-table s room n p = (
   λ t. first-is-told s room n p .1 (table-fault s (length room) n p t),
 )
 
+-- A number that only steps have is refused at a step, in a file that is admitted.
+pub step-refused :
+    (s room : List ℕ) (n p : ℕ) → hasNumber n (admissionChecks s) ≡ false → hasNumber n (owingChecks (caseOf s)) ≡ false →
+    hasNumber n (endChecks (caseOf s) (finalState (caseOf s)) (length room)) ≡ false → outcome s room .verdict ≡ refused n p →
+    AllHold (admissionChecks s) × (k : ℕ) × RefusedAt s k n p
+step-refused s room n p a o e is = go (refused-by-table s room n p .0 is)
+  where
+    go : InTable s (length room) n p → AllHold (admissionChecks s) × (k : ℕ) × RefusedAt s k n p
+    go (in-admission f) = other-number (admissionChecks s) a f
+    go (in-owing h f) = other-number (owingChecks (caseOf s)) o f
+    go (in-step {k = k} h g lt before f) = (h, k, record { there = lt; before = before; fault = f })
+    go (in-end h g lt all f) = other-number (endChecks (caseOf s) (finalState (caseOf s)) (length room)) e f
+
 -- Each check of the list has the place k, but for 27, which has r.
 abbrev PlaceOf : (stray : Bool) → (k r p : ℕ) → Type 0
 PlaceOf true k r p = p ≡ r
@@ -144,5 +158,5 @@ module _ (k r n p : ℕ) where
   placed-fault a (later {c = each m count fault} h f) = absurd a
 
 pub step-is-place : StepIsPlace
-unfolding stepChecks shapeChecks useChecks citationChecks misfitChecks fitChecks
+unfolding stepChecks shapeChecks aboveChecks useChecks citationChecks misfitChecks fitChecks
 step-is-place c k n p t = placed-fault k (c .step k .stray) n p (search)

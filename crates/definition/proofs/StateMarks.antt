@@ -1,4 +1,4 @@
--- What the states hold: the labels each step leaves open, and of every mark the step that made it. By induction on the steps.
+-- What the states hold: what each step rests on, and of every mark the step that made it. By induction on the steps.
 -- Assumes nothing.
 use Prim.Native.Nat.{ℕ, zero, suc, _<_}
 use mathlib.Core.Path.{_≡_, refl, sym, ap, _∙_, fun-ext}
@@ -14,7 +14,7 @@ use Rattle.definition.specs.02-Ranges.{update}
 use Rattle.definition.specs.03-Lists.{Among}
 use Rattle.definition.specs.17-Case.{Case}
 use Rattle.definition.specs.21-Rules.{Names}
-use Rattle.definition.specs.22-Steps.{State, opensIn, usedIn, startState, Labels, ruleOf, premisesOf, joined, leaves, markAll, markIf, next, stateAt}
+use Rattle.definition.specs.22-Steps.{State, Rests, restsIn, opensIn, usedIn, startState, Labels, ruleOf, premisesOf, joined, together, restsOn, markAll, markIf, next, stateAt}
 
 pub update-same : {A : Type 0} (f : ℕ → A) (k : ℕ) (v : A) → update f k v k ≡ v
 unfolding update
@@ -117,16 +117,25 @@ module _ (c : Case) (marks : State → ℕ → Bool) (named : Names → Bool)
         ⊎-elim (λ q. sets-mark k x (named (ruleOf c k .names)) (rw (← q) n) (rw (← q) e))
         (λ l. keeps-mark k x (named (ruleOf c k .names)) (before-cited k j x l n e)) (eq-or-lt-of-le (le-of-suc-le-suc lt))
 
--- the labels that step j leaves open
-unfoldable pub openAt : Case → ℕ → Labels
-openAt c j = leaves (ruleOf c j .effect) (c .step j .argument) (joined (opensIn (stateAt c j)) (premisesOf c j))
+-- what step j rests on, and the labels that it leaves open
+unfoldable pub restsAt : Case → ℕ → Rests
+restsAt c j = restsOn (ruleOf c j .names) (ruleOf c j .effect) (c .step j .argument) (together (restsIn (stateAt c j)) (premisesOf c j))
+
+abbrev pub openAt : Case → ℕ → Labels
+openAt c j = restsAt c j .opens
+
+abbrev pub citesAt : Case → ℕ → Bool
+citesAt c j = restsAt c j .cites
+
+pub rests-at : (c : Case) (k j : ℕ) → j < k → restsIn (stateAt c k) j ≡ restsAt c j
+unfolding stateAt next restsAt
+rests-at c zero j lt = absurd (omega arith)
+rests-at c (suc k) j lt =
+    ⊎-elim (λ e. rw e (update-same (restsIn (stateAt c k)) k _))
+    (λ l. update-other (restsIn (stateAt c k)) k _ j (λ e. omega arith) ∙ rests-at c k j l) (eq-or-lt-of-le (le-of-suc-le-suc lt))
 
 pub opens-at : (c : Case) (k j : ℕ) → j < k → opensIn (stateAt c k) j ≡ openAt c j
-unfolding stateAt next openAt
-opens-at c zero j lt = absurd (omega arith)
-opens-at c (suc k) j lt =
-    ⊎-elim (λ e. rw e (update-same (opensIn (stateAt c k)) k _))
-    (λ l. update-other (opensIn (stateAt c k)) k _ j (λ e. omega arith) ∙ opens-at c k j l) (eq-or-lt-of-le (le-of-suc-le-suc lt))
+opens-at c k j lt = ap (λ r. r .opens) (rests-at c k j lt)
 
 pub joined-same : (O Q : ℕ → Labels) (ps : List ℕ) → ((p : ℕ) → Among p ps → O p ≡ Q p) → joined O ps ≡ joined Q ps
 unfolding joined

@@ -1,15 +1,13 @@
--- What the tests of step k say of that step alone, given the labels that its premises leave open; and its span. Assumes nothing.
+-- What the tests of step k say of that step alone, given what its premises rest on; and its span. Assumes nothing.
 use Prim.Native.Nat.{ℕ, _<_}
 use mathlib.Core.Path.{_≡_, _∙_}
 use mathlib.Core.Bool.{Bool, true, false, not, _&&_}
-use mathlib.Core.List.{[], _∷_}
 use native.Mathlib.Omega.{arith}
 use lib.ListN.{length, length-map}
 use lib.Dec.{eqb, ltb}
 use borrow.Author.Tests.{ltb-false, le-ltb, eqb-true, eq-eqb, not-false}
 use Rattle.definition.specs.01-Words.{absent}
 use Rattle.definition.specs.02-Ranges.{listed}
-use Rattle.definition.specs.04-Checks.{single}
 use Rattle.definition.proofs.CheckLaws.{by-number, both-hold, hold-both}
 use Rattle.definition.proofs.Tests.{and-true, and-intro, or-false, not-both, never-true}
 use Rattle.definition.specs.13-Formulas.{each-use, isPolicy, closed}
@@ -18,7 +16,7 @@ use Rattle.definition.proofs.OccurrenceLaws.{policy-is, closed-is}
 use Rattle.definition.specs.15-Records.{badSpan}
 use Rattle.definition.specs.17-Case.{Case}
 use Rattle.definition.proofs.Spans as laws
-use Rattle.definition.specs.22-Steps.{State, opensIn, usedIn, Labels, ruleOf, premisesOf, mustBeAbsent, misshapen, isAnObligation, joined, isEachUse, isAdding, share, usedTwice, premiseFormulas, misfit, notFresh, citationChecks, misfitChecks, fitChecks, shapeChecks, useChecks, stepChecks}
+use Rattle.definition.specs.22-Steps.{State, Rests, restsIn, opensIn, usedIn, ruleOf, premisesOf, mustBeAbsent, misshapen, isAnObligation, joined, isEachUse, isAdding, share, usedTwice, premiseFormulas, misfit, notFresh, noTautology, citationChecks, misfitChecks, fitChecks, shapeChecks, aboveChecks, useChecks, stepChecks}
 use Rattle.definition.specs.42-Account.{SpansAdjoin}
 use Rattle.definition.proofs.States.{Fine}
 use Rattle.definition.proofs.PremiseLaws.{Usable, premises-usable, usable-premises}
@@ -30,13 +28,14 @@ use Rattle.definition.proofs.MisfitLaws.{fit-checks}
 unfoldable pub spanFault : Case → ℕ → Bool
 spanFault c k = badSpan (λ j. c .step j .from) (λ j. c .step j .len) (c .steps) (c .premises) k
 
--- the shape of step k, the tests of its rule, and that its premises share no each-use label, where O are the labels that each step leaves open
-pub record Local (c : Case) (O : ℕ → Labels) (k : ℕ) : Type 0 where
+-- the shape of step k, the tests of its rule, that its premises share no each-use label, and check 28, where R is what each step rests on
+pub record Local (c : Case) (R : ℕ → Rests) (k : ℕ) : Type 0 where
   pub number : c .step k .rule < 16
   pub policy : Policy (c .step k .formula)
   pub closed : Closed (c .step k .formula)
-  pub tests : Tests c (c .step k .rule) (c .step k .formula) (c .step k .argument) (premiseFormulas c k) (joined O (premisesOf c k))
-  pub split : share c O (premisesOf c k) ≡ false
+  pub tests : Tests c (c .step k .rule) (c .step k .formula) (c .step k .argument) (premiseFormulas c k) (joined (λ j. R j .opens) (premisesOf c k))
+  pub split : share c (λ j. R j .opens) (premisesOf c k) ≡ false
+  pub refines : noTautology c R k ≡ false
 
 -- an each-use obligation that step k cites was not cited before
 abbrev pub SpentOnce : Case → State → ℕ → Type 0
@@ -75,13 +74,13 @@ unfolding stepChecks shapeChecks
 fine-shaped c k s f = f .0
 
 pub record Parts (c : Case) (k : ℕ) (s : State) : Type 0 where
-  pub local : Local c (opensIn s) k
+  pub local : Local c (restsIn s) k
   pub usable : Usable (usedIn s) k (premisesOf c k)
   pub span : spanFault c k ≡ false
   pub once : SpentOnce c s k
 
 pub fine-parts : (c : Case) (k : ℕ) (s : State) → Fine c k s → Parts c k s
-unfolding stepChecks shapeChecks citationChecks useChecks misfitChecks fitChecks usedTwice misfit notFresh ruleOf premiseFormulas spanFault
+unfolding stepChecks shapeChecks citationChecks aboveChecks useChecks misfitChecks fitChecks usedTwice misfit notFresh ruleOf premiseFormulas spanFault
 fine-parts c k s f =
     let checks = stepChecks c k s in
     let w = well-shaped c k (by-number 12 checks f .0) in
@@ -102,6 +101,7 @@ fine-parts c k s f =
           fresh = by-number 19 checks f .0;
         };
         split = u2 .1;
+        refines = by-number 28 checks f .0;
       };
       usable = premises-usable (usedIn s) k (premisesOf c k) (by-number 13 checks f .0);
       span = w .span;
@@ -109,7 +109,7 @@ fine-parts c k s f =
     }
 
 pub parts-fine : (c : Case) (k : ℕ) (s : State) → Parts c k s → Fine c k s
-unfolding stepChecks shapeChecks citationChecks useChecks misfitChecks fitChecks misshapen usedTwice misfit notFresh ruleOf premiseFormulas spanFault
+unfolding stepChecks shapeChecks citationChecks aboveChecks useChecks misfitChecks fitChecks misshapen usedTwice misfit notFresh ruleOf premiseFormulas spanFault
 parts-fine c k s p =
     let l = p .local in
     let t = l .tests in
@@ -122,7 +122,7 @@ parts-fine c k s p =
     let taken = usable-premises (usedIn s) k (premisesOf c k) (p .usable) in
     hold-both (shapeChecks c k s) (useChecks c k s)
     (shape, (taken, t .cites))
-    (rw (spent, l .split) (t .added), hold-both (fitChecks c k) (single 19 k (notFresh c s k) ∷ []) (fit-checks c k .1 (rw (t .fits))) (t .fresh, tt))
+    (rw (spent, l .split) (t .added), hold-both (fitChecks c k) (aboveChecks c k s) (fit-checks c k .1 (rw (t .fits))) (t .fresh, (l .refines, tt)))
 
 -- the spans of all steps adjoin and cover just if none is at fault
 pub spans-adjoin : (c : Case) → ((k : ℕ) → k < c .steps → spanFault c k ≡ false) → SpansAdjoin c

@@ -1,33 +1,31 @@
 -- The place of check 27: the first fault of a step has this number only where an owner step's formula holds a data variable, and then its book is admitted. Assumes nothing.
-use Prim.Native.Nat.{ℕ, _≤_, _<_}
+use Prim.Native.Nat.{ℕ, _≤_}
 use mathlib.Core.Path.{_≡_, refl}
 use mathlib.Core.Bool.{true, false}
 use mathlib.Core.Logic.{⊎-elim}
-use mathlib.Core.List.{List, [], _∷_}
+use mathlib.Core.List.{List}
 use native.Mathlib.Omega.{arith}
-use lib.ListN.{length}
 use lib.Dec.{eqb}
 use borrow.Author.Tests.{eqb-true}
 use Rattle.definition.proofs.AdmissionLaws.{admitted-parted}
 use Rattle.definition.proofs.CheckLaws.{by-number, hold-all, fault-either, other-number}
 use Rattle.definition.proofs.PartLaws.{held-count, part-few}
-use Rattle.definition.proofs.RefusalTable.{refused-by-table}
+use Rattle.definition.proofs.RefusalTable.{step-refused}
 use Rattle.definition.proofs.StepLaws.{well-shaped}
 use Rattle.definition.proofs.StrayLaws.{one-stray, stray-found}
 use Rattle.definition.proofs.Tests.{and-true}
 use Rattle.definition.proofs.Trees.{number-inside}
-use Rattle.definition.specs.04-Checks.{accepts, AllHold, FirstFault, here, later, single}
+use Rattle.definition.specs.04-Checks.{accepts, AllHold, FirstFault, here, later}
 use Rattle.definition.specs.11-Layout.{formula-part, part, layoutChecks, recordsIn, recordBytes, mostRecords, rowBytes}
 use Rattle.definition.specs.13-Formulas.{isPolicy, has}
 use Rattle.definition.specs.14-Book.{bookRows, treeIn, book, bookChecks}
 use Rattle.definition.specs.15-Records.{formulas, stepFormula, logChecks, recordChecks}
 use Rattle.definition.specs.17-Case.{Case, caseOf}
 use Rattle.definition.specs.18-Admission.{checksToLog, admissionChecks, admission}
-use Rattle.definition.specs.22-Steps.{State, misshapen, strayVariable, citationChecks, misfitChecks, fitChecks, shapeChecks, useChecks, stepChecks, stateAt}
-use Rattle.definition.specs.31-Outcome.{closingChecks, roomChecks, owingChecks, endChecks, finalState}
+use Rattle.definition.specs.22-Steps.{State, misshapen, strayVariable, citationChecks, misfitChecks, fitChecks, shapeChecks, aboveChecks, useChecks, stepChecks, stateAt}
+use Rattle.definition.specs.31-Outcome.{closingChecks, roomChecks, owingChecks, endChecks}
 use Rattle.definition.specs.41-Occurrences.{GoodRow}
-use Rattle.definition.specs.44-Demands.{StepsHold, InTable, in-admission, in-owing, in-step, in-end}
-use Rattle.definition.specs.46-Requests.{StrayTold, TellsStray, PlaceByBook}
+use Rattle.definition.specs.46-Requests.{RefusedAt, StrayTold, TellsStray, PlaceByBook}
 
 -- The first fault of a step has number 27.
 record OwnerFault (c : Case) (k p : ℕ) : Type 0 where
@@ -36,7 +34,7 @@ record OwnerFault (c : Case) (k p : ℕ) : Type 0 where
   place : c .step k .stray ≡ p
 
 owner-fault : (c : Case) (k p : ℕ) (t : State) → FirstFault (stepChecks c k t) 27 p → OwnerFault c k p
-unfolding stepChecks shapeChecks citationChecks useChecks fitChecks misfitChecks
+unfolding stepChecks shapeChecks citationChecks aboveChecks useChecks fitChecks misfitChecks
 owner-fault c k p t f =
     ⊎-elim (λ g. other-number (shapeChecks c k t) refl g) (λ g. go (g .0 .0) (g .1)) (fault-either (shapeChecks c k t) (useChecks c k t) f)
   where
@@ -46,7 +44,7 @@ owner-fault c k p t f =
 
     go : misshapen c k ≡ false → FirstFault (useChecks c k t) 27 p → OwnerFault c k p
     go e (here x) = absurd (omega (arith, x .0))
-    go e (later h g) = ⊎-elim (λ x. fit e x) (λ x. other-number (single 19 k _ ∷ []) refl (x .1)) (fault-either (fitChecks c k) (single 19 k _ ∷ []) g)
+    go e (later h g) = ⊎-elim (λ x. fit e x) (λ x. other-number (aboveChecks c k t) refl (x .1)) (fault-either (fitChecks c k) (aboveChecks c k t) g)
 
 module _ (s : List ℕ) (a : AllHold (admissionChecks s)) where
   admitted : admission s ≡ accepts tt
@@ -64,22 +62,16 @@ module _ (s : List ℕ) (a : AllHold (admissionChecks s)) where
       let inside = number-inside (part s formula-part) n isPolicy refl e in
       record { good = λ j le. by-number 3 (admissionChecks s) a .0 j (omega arith); inside = inside; few = omega (arith, book-few) }
 
-  owner-told : (k p : ℕ) → k < caseOf s .steps → StepsHold (caseOf s) k → FirstFault (stepChecks (caseOf s) k (stateAt (caseOf s) k)) 27 p → StrayTold s p
+  owner-told : (k p : ℕ) → RefusedAt s k 27 p → StrayTold s p
   unfolding strayVariable caseOf formulas
-  owner-told k p lt before fault =
-      let f = owner-fault (caseOf s) k p (stateAt (caseOf s) k) fault in
+  owner-told k p r =
+      let f = owner-fault (caseOf s) k p (stateAt (caseOf s) k) (r .fault) in
       let w = and-true (eqb (caseOf s .step k .rule) 5) _ (f .stray) in
-      record { step = k; there = lt; before = before; fault = fault; owner = eqb-true _ 5 (w .0); row = rw (← f .place) (stray-found (policy-good (stepFormula s k) (well-shaped (caseOf s) k (f .shaped) .policy)) (w .1)) }
+      record { step = k; at = r; owner = eqb-true _ 5 (w .0); row = rw (← f .place) (stray-found (policy-good (stepFormula s k) (well-shaped (caseOf s) k (f .shaped) .policy)) (w .1)) }
 
 pub tells-stray : TellsStray
 unfolding checksToLog admissionChecks layoutChecks bookChecks logChecks recordChecks owingChecks closingChecks roomChecks endChecks
-tells-stray s room p e = go (refused-by-table s room 27 p .0 e)
-  where
-    go : InTable s (length room) 27 p → StrayTold s p
-    go (in-admission f) = other-number (admissionChecks s) refl f
-    go (in-owing a f) = other-number (owingChecks (caseOf s)) refl f
-    go (in-step {k = k} a o lt before f) = owner-told s a k p lt before f
-    go (in-end a o lt all f) = other-number (endChecks (caseOf s) (finalState (caseOf s)) (length room)) refl f
+tells-stray s room p e = let r = step-refused s room 27 p refl refl refl e in owner-told s (r .0) (r .1) p (r .2)
 
 pub place-by-book : PlaceByBook
 place-by-book s t p q a b same number = one-stray (a .row) (rw (← same, ← number) at (b .row))

@@ -1,4 +1,4 @@
--- One step of a justification: checks 12 to 19 and 24 to 27 in their order, and what the step then changes; and the checks of all steps.
+-- One step of a justification: checks 12 to 19 and 24 to 28 in their order, and what the step then changes; and the checks of all steps.
 use Prim.Native.Nat.{ℕ, zero, suc, _+_}
 use mathlib.Core.Bool.{Bool, true, false, not, _&&_, _||_}
 use mathlib.Core.Option.{Option, none, some}
@@ -17,9 +17,14 @@ use Rattle.definition.specs.21-Rules.{Rule, Names, nothing, a-label, a-c
 abbrev pub Labels : Type 0
 Labels = ℕ → Bool
 
--- What a step leaves behind: the labels that it leaves open, and whether a later step has it as a premise.
-pub record Left : Type 0 where
+-- What a step rests on: the labels that it leaves open, and whether it or a step above it cites evidence, that is, a log row, condition or obligation.
+pub record Rests : Type 0 where
   pub opens : Labels
+  pub cites : Bool
+
+-- What a step leaves behind: what it rests on, and whether a later step has it as a premise.
+pub record Left : Type 0 where
+  pub rests : Rests
   pub used : Bool
 
 -- What the steps so far have done: what each leaves behind, the log rows cited, the obligations discharged.
@@ -28,22 +33,32 @@ pub record State : Type 0 where
   pub cited : ℕ → Bool
   pub discharged : ℕ → Bool
 
--- The labels that step k leaves open, and whether it is used.
+-- What step k rests on, the labels that it leaves open, and whether it is used.
+abbrev pub restsIn : State → ℕ → Rests
+restsIn s k = s .left k .rests
+
 abbrev pub opensIn : State → ℕ → Labels
-opensIn s k = s .left k .opens
+opensIn s k = s .left k .rests .opens
 
 abbrev pub usedIn : State → ℕ → Bool
 usedIn s k = s .left k .used
 
--- What the steps leave behind, with other labels left open, and with other steps used.
-abbrev pub withOpens : (ℕ → Left) → (ℕ → Labels) → ℕ → Left
-withOpens left opens j = record { opens = opens j; used = left j .used }
+-- What the steps leave behind, with `rests` replaced, and with `used` replaced.
+abbrev pub withRests : (ℕ → Left) → (ℕ → Rests) → ℕ → Left
+withRests left rests j = record { rests = rests j; used = left j .used }
 
 abbrev pub withUsed : (ℕ → Left) → (ℕ → Bool) → ℕ → Left
-withUsed left used j = record { opens = left j .opens; used = used j }
+withUsed left used j = record { rests = left j .rests; used = used j }
+
+-- Of a step that rests on nothing, and of two together.
+abbrev pub noRests : Rests
+noRests = record { opens = λ l. false; cites = false }
+
+abbrev pub bothRests : Rests → Rests → Rests
+bothRests r q = record { opens = λ l. r .opens l || q .opens l; cites = r .cites || q .cites }
 
 unfoldable pub startState : State
-startState = record { left = λ k. record { opens = λ l. false; used = false }; cited = λ k. false; discharged = λ k. false }
+startState = record { left = λ k. record { rests = noRests; used = false }; cited = λ k. false; discharged = λ k. false }
 
 unfoldable pub ruleOf : Case → ℕ → Rule
 ruleOf c k = ruleAt (c .step k .rule)
@@ -113,6 +128,15 @@ isAnObligation a-row = false
 isAnObligation an-obligation = true
 isAnObligation a-term = false
 
+-- Evidence: "log row, condition or obligation" (document 02, request 3).
+unfoldable pub isEvidence : Names → Bool
+isEvidence nothing = false
+isEvidence a-label = false
+isEvidence a-condition = true
+isEvidence a-row = true
+isEvidence an-obligation = true
+isEvidence a-term = false
+
 unfoldable pub isHidden : RowView → Bool
 isHidden hidden = true
 isHidden struck = false
@@ -135,6 +159,15 @@ citesStruck c n a = isARow n && isStruck (c .row a)
 unfoldable pub joined : (ℕ → Labels) → List ℕ → Labels
 joined opens [] l = false
 joined opens (p ∷ ps) l = opens p l || joined opens ps l
+
+-- Does one of the steps, or a step above it, cite evidence?
+unfoldable pub someCites : (ℕ → Bool) → List ℕ → Bool
+someCites cites [] = false
+someCites cites (p ∷ ps) = cites p || someCites cites ps
+
+-- What the steps rest on together.
+abbrev pub together : (ℕ → Rests) → List ℕ → Rests
+together rests ps = record { opens = joined (λ p. rests p .opens) ps; cites = someCites (λ p. rests p .cites) ps }
 
 unfoldable pub isEachUse : Case → ℕ → Bool
 isEachUse c l = eqb (c .label l .mark) each-use
@@ -189,11 +222,24 @@ notFresh c s k =
     && (has (this-term a) 0 (c .step k .formula)
     || any (λ l. above l && has (this-term a) 0 (c .label l .formula)) (c .labels) 0)
 
+-- Document 02, request 3. Check 28: "Rule 4's first premise and all above it may cite no log row, condition or obligation; it leaves no label open."
+-- Does the first of the steps, or a step above it, cite evidence, or does it leave a label open?
+unfoldable pub firstRests : Case → (ℕ → Rests) → List ℕ → Bool
+firstRests c rests [] = false
+firstRests c rests (p ∷ ps) = rests p .cites || any (rests p .opens) (c .labels) 0
+
+unfoldable pub noTautology : Case → (ℕ → Rests) → ℕ → Bool
+noTautology c rests k = eqb (c .step k .rule) 4 && firstRests c rests (premisesOf c k)
+
 -- The labels that a step leaves open, from those that its premises leave open together. "Closing a label not open is allowed."
 unfoldable pub leaves : Effect → ℕ → Labels → Labels
 leaves keeps a above = above
 leaves adds a above = update above a true
 leaves closes a above = update above a false
+
+-- What a step rests on, from what its premises rest on together.
+abbrev pub restsOn : Names → Effect → ℕ → Rests → Rests
+restsOn n e a above = record { opens = leaves e a (above .opens); cites = isEvidence n || above .cites }
 
 unfoldable pub markAll : (ℕ → Bool) → List ℕ → ℕ → Bool
 markAll used [] = used
@@ -210,7 +256,7 @@ next c k s =
     let a = c .step k .argument in
     let ps = premisesOf c k in
     record {
-      left = withOpens (withUsed (s .left) (markAll (usedIn s) ps)) (update (opensIn s) k (leaves (r .effect) a (joined (opensIn s) ps)));
+      left = withRests (withUsed (s .left) (markAll (usedIn s) ps)) (update (restsIn s) k (restsOn (r .names) (r .effect) a (together (restsIn s) ps)));
       cited = markIf (isARow (r .names)) (s .cited) a;
       discharged = markIf (isAnObligation (r .names)) (s .discharged) a;
     }
@@ -237,21 +283,25 @@ misfitChecks c k =
 unfoldable pub fitChecks : Case → ℕ → List Check
 fitChecks c k = single 27 (c .step k .stray) (strayVariable c k) ∷ misfitChecks c k
 
--- Checks 12 to 16 of step k: it is well made, and all that it rests on is there.
+-- Checks 12 to 16 of step k: it is well made, and all that it names is there.
 unfoldable pub shapeChecks : Case → ℕ → State → List Check
 shapeChecks c k s =
     single 12 k (misshapen c k)
     ∷ single 13 k (badPremises (usedIn s) k (premisesOf c k))
     ∷ citationChecks c (ruleOf c k .names) (c .step k .argument) k
 
--- Check 17; 27, 24, 25, 26 and 18; check 19: step k uses what it rests on as its rule allows.
+-- Checks 19 and 28, which look at what the premises of step k rest on. 28 comes "after 19".
+unfoldable pub aboveChecks : Case → ℕ → State → List Check
+aboveChecks c k s = single 19 k (notFresh c s k) ∷ single 28 k (noTautology c (restsIn s) k) ∷ []
+
+-- Check 17; 27, 24, 25, 26 and 18; 19 and 28: step k uses what it names as its rule allows.
 unfoldable pub useChecks : Case → ℕ → State → List Check
 useChecks c k s =
     single 17 k (usedTwice c s (ruleOf c k) (c .step k .argument) (premisesOf c k))
     ∷ fitChecks c k
-    ++ (single 19 k (notFresh c s k) ∷ [])
+    ++ aboveChecks c k s
 
--- Step k "through 12 to 19 by number", 27 and 24 to 26 put in before 18, in the state that the steps before it have left.
+-- Step k "through 12 to 19 by number", 27 and 24 to 26 put in before 18 and 28 behind 19, in the state that the steps before it have left.
 unfoldable pub stepChecks : Case → ℕ → State → List Check
 stepChecks c k s = shapeChecks c k s ++ useChecks c k s
 
@@ -267,5 +317,5 @@ stateAt c (suc k) = next c k (stateAt c k)
 
 -- What an evaluation unfolds of this file.
 unfoldable pub evaluatedSteps : Unit {0}
-unfolding startState ruleOf premisesOf mustBeAbsent misshapen badPremises isNone citesAbsent citesNothing isARow isAnObligation isHidden isStruck citesHidden citesStruck joined isEachUse share isAdding usedTwice strayVariable premiseFormulas wrongKind wrongParty wrongInstance misfit notFresh leaves markAll markIf next citationChecks misfitChecks fitChecks shapeChecks useChecks stepChecks checksOfSteps stateAt
+unfolding startState ruleOf premisesOf mustBeAbsent misshapen badPremises isNone citesAbsent citesNothing isARow isAnObligation isEvidence isHidden isStruck citesHidden citesStruck joined someCites isEachUse share isAdding usedTwice strayVariable premiseFormulas wrongKind wrongParty wrongInstance misfit notFresh firstRests noTautology leaves markAll markIf next citationChecks misfitChecks fitChecks shapeChecks aboveChecks useChecks stepChecks checksOfSteps stateAt
 evaluatedSteps = tt

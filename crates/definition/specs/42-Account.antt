@@ -129,22 +129,59 @@ pub data Follows (c : Case) : (r : ℕ) (f : Formula) (a : ℕ) (fs : List Formu
   -- 15 "from for all: the body with the argument (agent, data or parameter of the sort)"
   for-all-elim : {a : ℕ} {σ : Sort} {f : Formula} {L : Labels} → Instance σ a → Follows c 15 (put σ a 0 f) a (for-all σ f ∷ []) L L []
 
+-- What is handed on from a tree beside its formula: the labels that it leaves open, the obligations that it spends, the steps that it consists of.
+pub record HandedOn : Type 0 where
+  pub opens : Labels
+  pub spent : List ℕ
+  pub steps : List ℕ
+
+-- Those of some trees together.
+abbrev pub allOpens : List HandedOn → Labels
+allOpens [] = noLabels
+allOpens (g ∷ gs) = bothSets (g .opens) (allOpens gs)
+
+abbrev pub allSpent : List HandedOn → List ℕ
+allSpent [] = []
+allSpent (g ∷ gs) = g .spent ++ allSpent gs
+
+abbrev pub allSteps : List HandedOn → List ℕ
+allSteps [] = []
+allSteps (g ∷ gs) = g .steps ++ allSteps gs
+
+-- The rules that cite evidence: 1 a condition, 2 a log row, 12 an obligation.
+abbrev pub Citing : ℕ → Type 0
+Citing r = (r ≡ 1) ⊎ ((r ≡ 2) ⊎ (r ≡ 12))
+
+-- A tree that proves a tautology, in document 02's sense: no step of it cites evidence, and it leaves no label open.
+pub record Tautology (c : Case) (g : HandedOn) : Type 0 where
+  pub cites-none : (j : ℕ) → Among j (g .steps) → Citing (c .step j .rule) → ⊥
+  pub none-open : (l : ℕ) → l < c .labels → g .opens l ≡ true → ⊥
+
+-- There is a first tree, and P holds of it.
+abbrev pub OfFirst : (P : HandedOn → Type 0) → List HandedOn → Type 0
+OfFirst P [] = ⊥
+OfFirst P (g ∷ gs) = P g
+
+-- What rule r asks of its premises' trees, in their order. Document 02, request 3: "Rule 4's first premise and all above it may cite no log row, condition or obligation; it leaves no label open."
+pub record TreesAllowed (c : Case) (r : ℕ) (gs : List HandedOn) : Type 0 where
+  pub refining : r ≡ 4 → OfFirst (Tautology c) gs
+
 mutual
   -- Step k proves f; it leaves the labels M open, spends the obligations U, and consists of the steps S: it follows by its rule from what its premises prove.
   pub data Proof (c : Case) : (k : ℕ) (f : Formula) (M : Labels) (U S : List ℕ) → Type 0 where
     by-rule :
-        {k r a : ℕ} {f : Formula} {fs : List Formula} {L M : Labels} {ps u U S : List ℕ} →
-        IsStep c k r f a ps → Proofs c k ps fs L U S → Follows c r f a fs L M u → ObligationsSplit c u U →
-        Proof c k f M (u ++ U) (k ∷ S)
+        {k r a : ℕ} {f : Formula} {fs : List Formula} {gs : List HandedOn} {M : Labels} {ps u : List ℕ} →
+        IsStep c k r f a ps → Proofs c k ps fs gs → Follows c r f a fs (allOpens gs) M u → ObligationsSplit c u (allSpent gs) → TreesAllowed c r gs →
+        Proof c k f M (u ++ allSpent gs) (k ∷ allSteps gs)
 
-  -- The premises ps of step k prove the formulas fs, in their order. "Premises are earlier steps, each used once in all"; uses are split among them.
-  pub data Proofs (c : Case) : (k : ℕ) (ps : List ℕ) (fs : List Formula) (L : Labels) (U S : List ℕ) → Type 0 where
-    no-more : {k : ℕ} → Proofs c k [] [] noLabels [] []
+  -- The premises ps of step k prove the formulas fs, in their order; gs is what is handed on from their trees. "Premises are earlier steps, each used once in all"; uses are split among them.
+  pub data Proofs (c : Case) : (k : ℕ) (ps : List ℕ) (fs : List Formula) (gs : List HandedOn) → Type 0 where
+    no-more : {k : ℕ} → Proofs c k [] [] []
     one-more :
-        {k p : ℕ} {f : Formula} {L M : Labels} {ps U W S T : List ℕ} {fs : List Formula} →
-        p < k → Proof c p f L U S → Proofs c k ps fs M W T →
-        LabelsSplit c L M → ObligationsSplit c U W → Disjoint S T →
-        Proofs c k (p ∷ ps) (f ∷ fs) (bothSets L M) (U ++ W) (S ++ T)
+        {k p : ℕ} {f : Formula} {L : Labels} {ps U S : List ℕ} {fs : List Formula} {gs : List HandedOn} →
+        p < k → Proof c p f L U S → Proofs c k ps fs gs →
+        LabelsSplit c L (allOpens gs) → ObligationsSplit c U (allSpent gs) → Disjoint S (allSteps gs) →
+        Proofs c k (p ∷ ps) (f ∷ fs) (record { opens = L; spent = U; steps = S } ∷ gs)
 
 -- "Spans adjoin and cover all premises."
 pub record SpansAdjoin (c : Case) : Type 0 where

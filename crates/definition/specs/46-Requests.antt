@@ -1,19 +1,23 @@
--- What the requests of document 02 promise, and what they leave as it was. Proved in proofs/OwnNumbers, proofs/MisfitLaws and proofs/StrayPlaces.
-use Prim.Native.Nat.{ℕ, _<_}
+-- What the requests of document 02 promise, and what they leave as it was. Proved in proofs/OwnNumbers, proofs/MisfitLaws, proofs/StrayPlaces, proofs/Refining and proofs/RefiningPlaces.
+use Prim.Native.Nat.{ℕ, _≤_, _<_}
 use mathlib.Core.Bool.{Bool, false, cond, _||_}
 use mathlib.Core.Path.{_≡_}
 use mathlib.Core.Logic.{_⊎_, _↔_}
 use mathlib.Core.List.{List, [], _∷_}
 use lib.ListN.{length}
 use lib.Dec.{eqb}
+use Rattle.definition.specs.03-Lists.{Among}
 use Rattle.definition.specs.04-Checks.{Check, Checked, numberOf, accepts, _>>_, inOrder, AllHold, FirstFault}
-use Rattle.definition.specs.11-Layout.{formula-part, part}
+use Rattle.definition.specs.11-Layout.{formula-part, label-part, agentOf, part}
+use Rattle.definition.specs.13-Formulas.{Formula, says, implies}
 use Rattle.definition.specs.15-Records.{stepFormula}
 use Rattle.definition.specs.17-Case.{Case, caseOf}
-use Rattle.definition.specs.22-Steps.{misfit, fitChecks, stepChecks, stateAt}
+use Rattle.definition.specs.18-Admission.{Parted}
+use Rattle.definition.specs.22-Steps.{Labels, premisesOf, misfit, fitChecks, stepChecks, stateAt}
 use Rattle.definition.specs.31-Outcome.{Verdict, passed, none-owed, refused, Outcome, Finding, allChecks, found, report, outcome}
 use Rattle.definition.specs.41-Occurrences.{StrayIs}
-use Rattle.definition.specs.44-Demands.{StepsHold}
+use Rattle.definition.specs.42-Account.{HandedOn, Tautology, Proof}
+use Rattle.definition.specs.44-Demands.{StepsHold, Passes}
 
 -- The checks of a list without those of some numbers.
 unfoldable pub without : (ℕ → Bool) → List Check → List Check
@@ -49,16 +53,20 @@ asBefore o = record { verdict = verdictBefore (o .verdict); room = o .room }
 abbrev pub NumbersAlone : Type 0
 NumbersAlone = (s room : List ℕ) → outcomeWithout isMisfitNumber s room ≡ asBefore (outcome s room)
 
--- A step passes 27, 24, 25, 26 and 18 exactly if it passes 18, that is, if its rule's test holds. What the tests of the rules come to, `42-Account` says: it is as it was.
+-- A step passes 27, 24, 25, 26 and 18 exactly if it passes 18, that is, if its rule's test holds. What the tests of the rules come to, `Follows` of `42-Account` says: it is as it was.
 abbrev pub FitsAsBefore : Type 0
 FitsAsBefore = (c : Case) (k : ℕ) → AllHold (fitChecks c k) ↔ (misfit c k ≡ false)
 
--- Request 2: "tell where the stray data variable is". The step that check 27 refuses: all steps before it hold, its rule is 5, and p is the row to tell for its formula, in the file's book.
+-- Step k is refused by check n with place p: all steps before it hold, and so do its own checks before this one.
+pub record RefusedAt (s : List ℕ) (k n p : ℕ) : Type 0 where
+  pub there : k < caseOf s .steps
+  pub before : StepsHold (caseOf s) k
+  pub fault : FirstFault (stepChecks (caseOf s) k (stateAt (caseOf s) k)) n p
+
+-- Request 2: "tell where the stray data variable is". The step that check 27 refuses: its rule is 5, and p is the row to tell for its formula, in the file's book.
 pub record StrayTold (s : List ℕ) (p : ℕ) : Type 0 where
   pub step : ℕ
-  pub there : step < caseOf s .steps
-  pub before : StepsHold (caseOf s) step
-  pub fault : FirstFault (stepChecks (caseOf s) step (stateAt (caseOf s) step)) 27 p
+  pub at : RefusedAt s step 27 p
   pub owner : caseOf s .step step .rule ≡ 5
   pub row : StrayIs (part s formula-part) (stepFormula s step) p
 
@@ -90,7 +98,77 @@ pub record WasMisfit (s room : List ℕ) : Type 0 where
 abbrev pub StraysAlone : Type 0
 StraysAlone = (s room : List ℕ) → (outcomeWithout isStrayNumber s room ≡ outcome s room) ⊎ WasMisfit s room
 
+-- Request 3: "refining on the strength of a passing reading".
+unfoldable pub isRefiningNumber : ℕ → Bool
+isRefiningNumber n = eqb n 28
+
+-- The step that check 28 refuses: its rule is 4, and its first premise has a tree, which is no tautology.
+pub record RefiningTold (s : List ℕ) (k : ℕ) : Type 0 where
+  pub at : RefusedAt s k 28 k
+  pub refines : caseOf s .step k .rule ≡ 4
+  pub first : ℕ
+  pub others : List ℕ
+  pub premises-are : premisesOf (caseOf s) k ≡ first ∷ others
+  pub handed : HandedOn
+  pub proof : Proof (caseOf s) first (caseOf s .step first .formula) (handed .opens) (handed .spent) (handed .steps)
+  pub no-tautology : Tautology (caseOf s) handed → ⊥
+
+-- The place of 28 is such a step.
+abbrev pub TellsRefining : Type 0
+TellsRefining = (s room : List ℕ) (k : ℕ) → outcome s room .verdict ≡ refused 28 k → RefiningTold s k
+
+-- Every outcome but a refusal by 28 is the same without that check.
+abbrev pub RefiningsAlone : Type 0
+RefiningsAlone = (s room : List ℕ) → (outcomeWithout isRefiningNumber s room ≡ outcome s room) ⊎ ((k : ℕ) × (outcome s room ≡ record { verdict = refused 28 k; room = room }))
+
+-- What the request is for: the implication that a step refines by holds without the log.
+
+-- Two files have the same agent, of whom the rules speak, the same formulas and the same labels; the second has its parts where they are due. Its log, conditions and obligations may be any, and so may its audited action.
+pub record SameBookAndLabels (s t : List ℕ) : Type 0 where
+  pub parted : Parted t
+  pub agent : agentOf s ≡ agentOf t
+  pub formulas : part s formula-part ≡ part t formula-part
+  pub labels : part s label-part ≡ part t label-part
+
+-- The steps S of one case are steps of another: the same rule, formula, argument and premises.
+pub record SameSteps (c d : Case) (S : List ℕ) : Type 0 where
+  pub inside : (j : ℕ) → Among j S → j < d .steps
+  pub rule : (j : ℕ) → Among j S → d .step j .rule ≡ c .step j .rule
+  pub formula : (j : ℕ) → Among j S → d .step j .formula ≡ c .step j .formula
+  pub argument : (j : ℕ) → Among j S → d .step j .argument ≡ c .step j .argument
+  pub premises : (j : ℕ) → Among j S → premisesOf d j ≡ premisesOf c j
+
+-- Step k is an account of f by the steps S: it proves f, spends no obligation, and consists of these steps, which cite no evidence and leave no label open.
+pub record AccountOf (c : Case) (k : ℕ) (f : Formula) (S : List ℕ) : Type 0 where
+  pub opens : Labels
+  pub proof : Proof c k f opens [] S
+  pub tautology : Tautology c (record { opens = opens; spent = []; steps = S })
+
+-- Step k refines "agent says F to B", its second premise, to "agent says G to B" by "F implies G", its first premise.
+pub record Refines (c : Case) (k : ℕ) : Type 0 where
+  pub first : ℕ
+  pub second : ℕ
+  pub premises-are : premisesOf c k ≡ first ∷ second ∷ []
+  pub from : Formula
+  pub to : Formula
+  pub target : ℕ
+  pub implication : c .step first .formula ≡ implies from to
+  pub refined : c .step second .formula ≡ says (c .agent) from target
+  pub result : c .step k .formula ≡ says (c .agent) to target
+
+-- The first premise, with the steps above it, is an account of the implication: here, and in every file with the same agent, formulas and labels that has these steps, with the same numbers.
+pub record RefinesWithoutLog (s : List ℕ) (k : ℕ) : Type 0 where
+  pub refines : Refines (caseOf s) k
+  pub steps : List ℕ
+  pub above : (j : ℕ) → Among j steps → j ≤ refines .first
+  pub here : AccountOf (caseOf s) (refines .first) (implies (refines .from) (refines .to)) steps
+  pub account : (t : List ℕ) → SameBookAndLabels s t → SameSteps (caseOf s) (caseOf t) steps → AccountOf (caseOf t) (refines .first) (implies (refines .from) (refines .to)) steps
+
+-- So it is with every step of rule 4 in a case that passes.
+abbrev pub HoldsWithoutLog : Type 0
+HoldsWithoutLog = (s room : List ℕ) → Passes s room → (k : ℕ) → k < caseOf s .steps → caseOf s .step k .rule ≡ 4 → RefinesWithoutLog s k
+
 -- What an evaluation unfolds of this file.
 unfoldable pub evaluatedRequests : Unit {0}
-unfolding without findingWithout outcomeWithout isMisfitNumber numberBefore verdictBefore asBefore isStrayNumber
+unfolding without findingWithout outcomeWithout isMisfitNumber numberBefore verdictBefore asBefore isStrayNumber isRefiningNumber
 evaluatedRequests = tt

@@ -13,9 +13,9 @@ use Rattle.definition.specs.18-Admission.{admissionChecks}
 use Rattle.definition.specs.19-Rewriting.{laidOut}
 use Rattle.definition.specs.22-Steps.{State, stepChecks}
 use Rattle.definition.specs.31-Outcome.{passed, refused, owingChecks, endChecks}
-use Rattle.definition.specs.46-Requests.{outcomeWithout, isMisfitNumber, isStrayNumber, evaluatedRequests}
+use Rattle.definition.specs.46-Requests.{outcomeWithout, isMisfitNumber, isStrayNumber, isRefiningNumber, evaluatedRequests}
 use Rattle.definition.specs.51-Files.{fileOf, formulaRow, predicateRow, ownsRow, saysRow, andRow, impliesRow, communicatesRow, createsRow, userActionRow, step}
-use Rattle.definition.specs.53-Desk.{DeskCase, computed, expected, unchanged, writes, grantWith, seenBy, ownerStep, grant, built}
+use Rattle.definition.specs.53-Desk.{DeskCase, lent, computed, expected, unchanged, writes, grantWith, seenBy, ownerStep, grant, built}
 
 -- Grant with one byte changed, with other steps, and with further records.
 unfoldable pub grantByte : (at byte : ℕ) → List ℕ
@@ -217,9 +217,9 @@ misfitCases =
     ∷ unchanged (said 10 (3 ∷ 1 ∷ []) 1) (refused 18 2)
     ∷ unchanged (taken 12 (11 ∷ []) 0 0) (refused 18 1)
     ∷ unchanged (taken 13 (11 ∷ []) 0 1) (refused 18 1)
-    -- what fits goes on: the labels are open at the end, and the parameter is not fresh
+    -- what fits goes on: the labels are open at the end, the implication refined by is supposed, and the parameter is not fresh
     ∷ unchanged (said 3 (6 ∷ []) 0) (refused 21 0)
-    ∷ unchanged (said 4 (3 ∷ 4 ∷ []) 7) (refused 21 0)
+    ∷ unchanged (said 4 (3 ∷ 4 ∷ []) 7) (refused 28 2)
     ∷ unchanged (taken 12 (10 ∷ []) 0 0) (refused 21 0)
     ∷ unchanged (taken 13 (10 ∷ []) 0 1) (refused 21 0)
     ∷ unchanged (taken 14 (9 ∷ []) 7 32768) (refused 19 1)
@@ -305,6 +305,102 @@ strayCases =
 unfoldable pub beforeStrays : List (List ℕ)
 beforeStrays = stray 5 (2 ∷ []) 9 ∷ stray 5 (0 ∷ []) 14 ∷ []
 
+-- Request 3. A step by its rule, formula, argument and premises; steps one after another, with their spans.
+pub record Line : Type 0 where
+  pub rule : ℕ
+  pub formula : ℕ
+  pub argument : ℕ
+  pub premises : List ℕ
+
+unfoldable pub line : (rule formula argument : ℕ) → (premises : List ℕ) → Line
+line r f a ps = record { rule = r; formula = f; argument = a; premises = ps }
+
+unfoldable pub laid : (from : ℕ) → List Line → List (List ℕ)
+laid from [] = []
+laid from (l ∷ ls) = step (l .rule) (l .formula) (l .argument) from (length (l .premises)) ∷ laid (from + length (l .premises)) ls
+
+-- Steps over one book with seven labels; the audited action, rows, observers, conditions and obligations are given. F is "p and q".
+unfoldable pub reasoned : (action : ℕ) → (rows observers conditions obligations : List ℕ) → List Line → List ℕ
+reasoned action rows observers conditions obligations lines =
+    fileOf
+    (record {
+      agent = 0;
+      action = action;
+      formulas =
+          -- 0 "0 creates d0", 1 "0 owns d0", 2 p(d0), 3 q(d0), 4 F, 5 "0 says F to 1", 6 "0 says p to 1", 7 "0 communicates p to 1", 8 "F implies p"
+          createsRow 0 16384 ∷ ownsRow 0 16384 ∷ predicateRow 1 16384 absent absent ∷ predicateRow 2 16384 absent absent ∷ andRow 2 3 ∷ saysRow 0 4 1 ∷ saysRow 0 2 1 ∷ communicatesRow 0 2 1 ∷ impliesRow 4 2
+          -- 9 "2 says 8 to 0", 10 "2 communicates 8 to 0", 11 a duty; 12 and 13: 8, where 11 is done at each use, and once; 14 "8 and 12"
+          ∷ saysRow 2 8 0 ∷ communicatesRow 2 8 0 ∷ userActionRow 7 0 absent absent ∷ formulaRow 6 0 11 8 absent ∷ formulaRow 7 0 11 8 absent ∷ andRow 8 12
+          -- 15 "2 says F to 0", 16 "15 implies F", 17 "0 says 15 to 1"; 18 "1 implies 6", 19 "0 says 1 to 1", 20 "0 says 6 to 1", 21 "0 communicates 6 to 1"
+          ∷ saysRow 2 4 0 ∷ impliesRow 15 4 ∷ saysRow 0 15 1 ∷ impliesRow 1 6 ∷ saysRow 0 1 1 ∷ saysRow 0 6 1 ∷ communicatesRow 0 6 1
+          -- 22: 5, where 11 is done at each use; 23 "p implies 22"
+          ∷ formulaRow 6 0 11 5 absent ∷ impliesRow 2 22 ∷ [];
+      rows = rows;
+      observers = observers;
+      conditions = conditions;
+      obligations = obligations;
+      -- 2 and 3 are the duty, at each use and once; the others suppose: 0 F, 1 "F implies p", 4 formula 15, 5 formula 1, 6 formula 23
+      labels = 0 ∷ 4 ∷ 0 ∷ 8 ∷ 1 ∷ 11 ∷ 2 ∷ 11 ∷ 0 ∷ 15 ∷ 0 ∷ 1 ∷ 0 ∷ 23 ∷ [];
+      steps = laid 0 lines;
+      premises = joinAll (map (λ l. l .premises) lines);
+    })
+
+-- The agent sees two rows, of 0 and of 10; the reading is p; the duty is done, for one use.
+unfoldable pub seen : (action : ℕ) → List Line → List ℕ
+seen action = reasoned action (0 ∷ 0 ∷ 1 ∷ 10 ∷ 1 ∷ 1 ∷ []) (0 ∷ 0 ∷ []) (2 ∷ []) (1 ∷ 11 ∷ [])
+
+-- "0 says F to 1" is refined to "0 says p to 1" by "F implies p". What the agent says is by step 1, from row 0; the steps given begin at step 2, and the last of them proves the implication.
+unfoldable pub refiningBy : List Line → List Line
+refiningBy above = line 2 1 0 [] ∷ line 5 5 absent (0 ∷ []) ∷ above ++ line 4 6 absent ((1 + length above) ∷ 1 ∷ []) ∷ []
+
+unfoldable pub refining : List Line → List ℕ
+refining above = seen 7 (refiningBy above)
+
+-- F is supposed at step k, and "F implies p" is proved at step k + 2.
+unfoldable pub tautologyAt : ℕ → List Line
+tautologyAt k = line 0 4 0 [] ∷ line 7 2 absent (k ∷ []) ∷ line 9 8 0 ((k + 1) ∷ []) ∷ []
+
+-- "0 says 1 to 1" is refined to "0 says 6 to 1" by "1 implies 6", for which "0 owns d0" is step 2, as given, and "0 says F to 1" is refined within.
+unfoldable pub nested : Line → List ℕ
+nested ownership =
+    seen 21
+    (line 2 1 0 [] ∷ line 5 19 absent (0 ∷ []) ∷ ownership ∷ line 5 5 absent (2 ∷ []) ∷ tautologyAt 4
+    ++ line 4 6 absent (6 ∷ 3 ∷ []) ∷ line 9 18 5 (7 ∷ []) ∷ line 4 20 absent (8 ∷ 1 ∷ []) ∷ [])
+
+-- "F implies p" at step 3, from p as last night's reading.
+unfoldable pub byReading : List Line
+byReading = line 1 2 0 [] ∷ line 9 8 0 (2 ∷ []) ∷ []
+
+unfoldable pub refiningCases : List DeskCase
+refiningCases =
+    -- by a tautology; what is refined rests on a row
+    writes (refining (tautologyAt 2)) (passed 0 1) (0 ∷ 902 ∷ 903 ∷ [])
+    -- labels of a duty, opened and closed again above the tautology
+    ∷ writes (refining (tautologyAt 2 ++ tautologyAt 5 ++ line 11 12 2 (7 ∷ []) ∷ line 13 8 2 (8 ∷ []) ∷ line 11 12 2 (9 ∷ []) ∷ line 6 14 absent (4 ∷ 10 ∷ []) ∷ line 7 8 absent (11 ∷ []) ∷ [])) (passed 0 1) (0 ∷ 902 ∷ 903 ∷ [])
+    -- by a reading; from a row; by an obligation, with no label open: a reading and a row give no implication, so only an obligation is cited by the first premise itself
+    ∷ unchanged (refining byReading) (refused 28 4)
+    ∷ unchanged (refining (line 2 9 1 [] ∷ line 3 8 absent (2 ∷ []) ∷ [])) (refused 28 4)
+    ∷ unchanged (refining (tautologyAt 2 ++ line 11 12 2 (4 ∷ []) ∷ line 12 8 0 (5 ∷ []) ∷ [])) (refused 28 7)
+    -- a label is left open: of mark 0, 1 and 2
+    ∷ unchanged (refining (line 0 8 1 [] ∷ [])) (refused 28 3)
+    ∷ unchanged (refining (tautologyAt 2 ++ line 11 12 2 (4 ∷ []) ∷ line 13 8 2 (5 ∷ []) ∷ [])) (refused 28 7)
+    ∷ unchanged (refining (tautologyAt 2 ++ line 11 13 3 (4 ∷ []) ∷ line 13 8 3 (5 ∷ []) ∷ [])) (refused 28 7)
+    -- the reading is four steps above, in the right half of an "and" of which the left is taken
+    ∷ unchanged (refining (byReading ++ line 11 12 2 (3 ∷ []) ∷ tautologyAt 5 ++ line 6 14 absent (7 ∷ 4 ∷ []) ∷ line 7 8 absent (8 ∷ []) ∷ [])) (refused 28 10)
+    -- two refinements, the first by a tautology of what another agent says; one within another's tautology; and the same from a row, where the inner step holds
+    ∷ writes (seen 7 (line 2 1 0 [] ∷ line 5 17 absent (0 ∷ []) ∷ line 0 15 4 [] ∷ line 3 4 absent (2 ∷ []) ∷ line 9 16 4 (3 ∷ []) ∷ line 4 5 absent (4 ∷ 1 ∷ []) ∷ tautologyAt 6 ++ line 4 6 absent (8 ∷ 5 ∷ []) ∷ [])) (passed 0 1) (0 ∷ 902 ∷ 903 ∷ [])
+    ∷ writes (nested (line 0 1 5 [])) (passed 0 1) (0 ∷ 902 ∷ 903 ∷ [])
+    ∷ unchanged (nested (line 2 1 0 [])) (refused 28 9)
+    -- what is refined may rest on a reading, an obligation and a label, which is open at the end
+    ∷ unchanged (seen 7 (tautologyAt 0 ++ line 0 23 6 [] ∷ line 1 2 0 [] ∷ line 10 22 absent (3 ∷ 4 ∷ []) ∷ line 12 5 0 (5 ∷ []) ∷ line 4 6 absent (2 ∷ 6 ∷ []) ∷ [])) (refused 21 6)
+    -- it is after 24: a reading that is no implication
+    ∷ unchanged (refining (line 1 2 0 [] ∷ [])) (refused 24 3)
+    ∷ []
+
+-- As it was before the request: by a reading, and by a label that is open at the end.
+unfoldable pub beforeRefinings : List (List ℕ)
+beforeRefinings = refining byReading ∷ refining (line 0 8 1 [] ∷ []) ∷ []
+
 -- So many records of these two numbers.
 unfoldable pub pairsOf : (count first second : ℕ) → List ℕ
 pairsOf count first second = joinAll (replicate count (first ∷ second ∷ []))
@@ -315,7 +411,7 @@ observerAlone = laidOut 0 0 ([] ∷ [] ∷ words (0 ∷ []) ∷ [] ∷ [] ∷ []
 
 -- What builds these files, for an evaluation to unfold.
 unfoldable pub builtTable : Unit {0}
-unfolding built grantByte grantSteps grantOf grantAnd supposing supposedParameter supposedOwed laterPremise twoBinders supposeAll following said taken stray strayIn twoStrays sharedStray
+unfolding built grantByte grantSteps grantOf grantAnd supposing supposedParameter supposedOwed laterPremise twoBinders supposeAll following said taken stray strayIn twoStrays sharedStray line laid reasoned seen refiningBy refining tautologyAt nested byReading
 builtTable = tt
 
 pub table-claim : map computed tableCases ≡ map expected tableCases
@@ -334,6 +430,10 @@ pub stray-claim : map computed strayCases ≡ map expected strayCases
 unfolding builtTable strayCases
 stray-claim = refl
 
+pub refining-claim : map computed refiningCases ≡ map expected refiningCases
+unfolding builtTable refiningCases
+refining-claim = refl
+
 pub before-claim : map (λ s. outcomeWithout isMisfitNumber s [] .verdict) beforeCases ≡ refused 18 2 ∷ refused 18 1 ∷ refused 18 1 ∷ []
 unfolding builtTable beforeCases evaluatedRequests
 before-claim = refl
@@ -342,11 +442,15 @@ pub before-strays-claim : map (λ s. outcomeWithout isStrayNumber s [] .verdict)
 unfolding builtTable beforeStrays evaluatedRequests
 before-strays-claim = refl
 
+pub before-refinings-claim : map (λ s. outcomeWithout isRefiningNumber s lent .verdict) beforeRefinings ≡ passed 0 1 ∷ refused 21 1 ∷ []
+unfolding builtTable beforeRefinings evaluatedRequests
+before-refinings-claim = refl
+
 pub binder-claim : map computed binderCases ≡ map expected binderCases
 unfolding builtTable binderCases
 binder-claim = refl
 
--- "By number": the numbers of each group's checks, in its order. The second 14 is the one exception, for a struck row. Document 02 puts 27, 24, 25 and 26 before 18.
+-- "By number": the numbers of each group's checks, in its order. The second 14 is the one exception, for a struck row. Document 02 puts 27, 24, 25 and 26 before 18, and 28 after 19.
 pub admission-numbers : (s : List ℕ) → map numberOf (admissionChecks s) ≡ 1 ∷ 2 ∷ 3 ∷ 4 ∷ 5 ∷ 6 ∷ 7 ∷ 8 ∷ 9 ∷ []
 unfolding builtTable
 admission-numbers s = refl
@@ -355,7 +459,7 @@ pub owing-numbers : (c : Case) → map numberOf (owingChecks c) ≡ 10 ∷ 11 �
 unfolding builtTable
 owing-numbers c = refl
 
-pub step-numbers : (c : Case) (k : ℕ) (t : State) → map numberOf (stepChecks c k t) ≡ 12 ∷ 13 ∷ 14 ∷ 15 ∷ 16 ∷ 14 ∷ 17 ∷ 27 ∷ 24 ∷ 25 ∷ 26 ∷ 18 ∷ 19 ∷ []
+pub step-numbers : (c : Case) (k : ℕ) (t : State) → map numberOf (stepChecks c k t) ≡ 12 ∷ 13 ∷ 14 ∷ 15 ∷ 16 ∷ 14 ∷ 17 ∷ 27 ∷ 24 ∷ 25 ∷ 26 ∷ 18 ∷ 19 ∷ 28 ∷ []
 unfolding builtTable
 step-numbers c k t = refl
 

@@ -1,7 +1,7 @@
--- The each-use labels of a file, and what the premises of a step leave open together, one label and one premise at a time. Assumes nothing.
+-- The each-use labels of a file, and what the premises of a step rest on together, one label and one premise at a time. Assumes nothing.
 use Prim.Native.Nat.{ℕ, _+_, _-_, _≤_, _<_}
-use mathlib.Core.Path.{_≡_, refl, _∙_, fun-ext}
-use mathlib.Core.Bool.{Bool, true, false, _&&_, and-false}
+use mathlib.Core.Path.{_≡_, refl, sym, ap, _∙_, fun-ext}
+use mathlib.Core.Bool.{Bool, true, false, _&&_, _||_, and-false}
 use mathlib.Core.List.{List, _∷_}
 use native.Mathlib.Omega.{arith}
 use lib.Dec.{eqb, ltb}
@@ -10,8 +10,9 @@ use Rattle.definition.specs.02-Ranges.{any, listed, update}
 use Rattle.definition.specs.11-Layout.{label-part, count}
 use Rattle.definition.specs.15-Records.{labelMark, premiseStep}
 use Rattle.definition.specs.17-Case.{caseOf}
-use Rattle.definition.specs.22-Steps.{Labels, isEachUse, joined, share}
-use Rattle.tables.specs.Sets.{labelsOf, opensOf}
+use Rattle.definition.specs.22-Steps.{Labels, noRests, bothRests, isEachUse, joined, someCites, together, share}
+use Rattle.tables.specs.Sets.{labelsOf, restsMeant, restsOf, opensOf}
+use Rattle.tables.specs.declared.rests.Resting.{Resting}
 use Rattle.steps.specs.OpenLabels.{eachUseBelow, eachUseLabels, OneMore, IsAbove}
 use Rattle.steps.specs.declared.uses.Above.{Above}
 use Rattle.tables.proofs.Assignments.{any-as}
@@ -61,26 +62,28 @@ shared-is s p q few =
 
 module _ (s : List ℕ) (left : List ℕ) where
   -- no premise
-  pub above-nothing : (j : ℕ) (r : Above) → labelsOf (r .labels .bits) ≡ (λ l. false) → r .shared ≡ false → IsAbove s j (j - j) left r
-  unfolding joined share
+  pub above-nothing : (j : ℕ) (r : Above) → restsMeant (r .rests) ≡ noRests → r .shared ≡ false → IsAbove s j (j - j) left r
+  unfolding joined someCites share
   above-nothing j r e f =
       record {
-        labels = e ∙ rw (listed-end (premiseStep s) j j (omega arith)) (fun-ext (λ l. refl));
+        rests = e ∙ rw (listed-end (premiseStep s) j j (omega arith));
         shared = f ∙ rw (listed-end (premiseStep s) j j (omega arith));
       }
 
   -- one more, before those that are there
   pub above-more :
-      (end j p : ℕ) (eachUse premise : ℕ) (before after : Above) → count s label-part ≤ 32 → j < end → p ≡ premiseStep s j →
-      labelsOf eachUse ≡ eachUseLabels s → labelsOf premise ≡ opensOf left p →
-      IsAbove s (j + 1) (end - (j + 1)) left before → OneMore (labelsOf eachUse) (labelsOf premise) before after → IsAbove s j (end - j) left after
-  unfolding joined share caseOf
+      (end j p : ℕ) (eachUse : ℕ) (premise : Resting) (before after : Above) → count s label-part ≤ 32 → j < end → p ≡ premiseStep s j →
+      labelsOf eachUse ≡ eachUseLabels s → restsMeant premise ≡ restsOf left p →
+      IsAbove s (j + 1) (end - (j + 1)) left before → OneMore (labelsOf eachUse) (restsMeant premise) before after → IsAbove s j (end - j) left after
+  unfolding joined someCites share caseOf
   above-more end j p eachUse premise before after few lt e u b h m =
       let ps = listed (premiseStep s) (end - (j + 1)) (j + 1) in
       let next : listed (premiseStep s) (end - j) j ≡ p ∷ ps = rw e (listed-next (premiseStep s) end j lt) in
       record {
-        labels = m .labels ∙ rw (next, b, h .labels) (fun-ext (λ l. refl));
-        shared = m .shared ∙ rw (next, u, b, h .labels, h .shared, shared-is s (opensOf left p) (joined (opensOf left) ps) few);
+        rests = m .rests ∙ (λ i. bothRests (b i) (h .rests i)) ∙ ap (together (restsOf left)) (sym next);
+        shared =
+            m .shared ∙ (λ i. any (λ l. u i l && b i .opens l && h .rests i .opens l) 32 0 || h .shared i)
+            ∙ rw (next, shared-is s (opensOf left p) (joined (opensOf left) ps) few);
       }
 
 -- A label that a step adds is one of the file's.

@@ -11,18 +11,19 @@ use Rattle.definition.specs.11-Layout.{step-part, count}
 use Rattle.definition.specs.15-Records.{stepFrom, stepCount, stepArgument, premiseStep}
 use Rattle.definition.specs.17-Case.{Case, caseOf}
 use Rattle.definition.specs.21-Rules.{Names, Effect}
-use Rattle.definition.specs.22-Steps.{State, usedIn, ruleOf, premisesOf, misshapen, badPremises, joined, share, leaves, next, usedTwice, notFresh, citationChecks, shapeChecks, useChecks, stepChecks, withOpens, withUsed}
+use Rattle.definition.specs.22-Steps.{State, opensIn, usedIn, ruleOf, premisesOf, misshapen, badPremises, joined, together, restsOn, share, next, usedTwice, notFresh, citationChecks, shapeChecks, useChecks, stepChecks, withRests, withUsed}
 use Rattle.case_parts.specs.ShapedSteps.{EarlierNumbered}
 use Rattle.step_shape.specs.RuleLines.{shapeOf, ruleShape}
 use Rattle.case_parts.specs.ShapedSteps.{CitedEntry, ShapedStep, PremisesBelow}
-use Rattle.tables.specs.Sets.{labelsOf, marks, leftIn, opensOf, usedOf}
+use Rattle.tables.specs.Sets.{labelsOf, restsMeant, marks, leftIn, restsOf, usedOf}
+use Rattle.tables.specs.declared.rests.Resting.{Resting}
 use Rattle.words.specs.Meanings.{failureMeant}
 use Rattle.words.specs.declared.runs.Failure.{Failure}
 use Rattle.words.specs.declared.runs.Failure.the-variants.{None, At}
 use Rattle.step_shape.proofs.CitationLaws.{cited-entry}
 use Rattle.step_shape.proofs.EarlierPremises.{premises-earlier, all-taken}
 use Rattle.steps.specs.CitedEntries.{CitedMarked}
-use Rattle.steps.specs.OpenLabels.{IsAbove, AboveIn, twiceUsed, inOpenLabels, staleTerm}
+use Rattle.steps.specs.OpenLabels.{IsAbove, UsesIn, twiceUsed, inOpenLabels, staleTerm}
 use Rattle.steps.specs.StepAnswers.{byRun, aboveTold, RefusedBy, JudgedAs, Stepped, touched, afterStep}
 use Rattle.step_shape.specs.TakenPremises.{Taken, takes}
 use Rattle.steps.specs.WorkingTables.{stateOf, Tables}
@@ -49,15 +50,18 @@ module _ (c : Case) (k : ℕ) (s : State) where
   unfolding stepChecks
   shape-passed e = sym (skip-before (shapeChecks c k s) (useChecks c k s) (all-hold (shapeChecks c k s) (sym e)))
 
--- Checks 17 and 19, from what was found of the labels above.
-module _ (c : Case) (k : ℕ) (s : State) (discharged : ℕ → Bool) (labels : ℕ → Bool) (shared : Bool) (d : s .discharged ≡ discharged) (above : AboveIn c k s labels shared) where
-  pub twice-is : twiceUsed c (shapeOf (ruleOf c k)) (c .step k .argument) discharged labels shared ≡ usedTwice c s (ruleOf c k) (c .step k .argument) (premisesOf c k)
-  unfolding twiceUsed usedTwice shapeOf ruleShape
-  twice-is = rw (← d, above .labels-are, above .shared-is)
+-- Check 17, from what was found of the steps above.
+pub twice-is :
+    (c : Case) (k : ℕ) (l : List ℕ) (d : List Bool) (above : Above) (s : State) → UsesIn c k l d above s →
+    twiceUsed c (shapeOf (ruleOf c k)) (c .step k .argument) (marks d) (labelsOf (above .rests .opens .bits)) (above .shared)
+    ≡ usedTwice c s (ruleOf c k) (c .step k .argument) (premisesOf c k)
+unfolding twiceUsed usedTwice shapeOf ruleShape
+twice-is c k l d above s u = rw (← u .spent, ap (λ r. r .opens) (u .rests-are), u .shared-is)
 
-  pub stale-is : staleTerm c k labels ≡ notFresh c s k
-  unfolding staleTerm notFresh inOpenLabels
-  stale-is = rw (above .labels-are)
+-- Check 19, in a state with these labels open above.
+pub stale-is : (c : Case) (k : ℕ) (s : State) (labels : ℕ → Bool) → labels ≡ joined (opensIn s) (premisesOf c k) → staleTerm c k labels ≡ notFresh c s k
+unfolding staleTerm notFresh inOpenLabels
+stale-is c k s labels e = rw e
 
 -- The answer to a step that checks 12 to 16 refuse.
 module _ (s : List ℕ) (k : ℕ) (l : List ℕ) (d : List Bool) where
@@ -119,19 +123,24 @@ module _ (s : List ℕ) (k : ℕ) (l : List ℕ) (d : List Bool) where
 
           -- the checks of the uses decide.
           pub judged-use :
-              (r : Judged) (above : Above) → r .above ≡ above .labels → IsAbove s from len l′ above →
-              ((st : State) → st .discharged ≡ marks d → AboveIn (caseOf s) k st (labelsOf (above .labels .bits)) (above .shared) → failureMeant (r .fault) ≡ inOrder (useChecks (caseOf s) k st)) →
+              (r : Judged) (above : Above) → r .above ≡ above .rests → IsAbove s from len l′ above →
+              ((st : State) → UsesIn (caseOf s) k l′ d above st → failureMeant (r .fault) ≡ inOrder (useChecks (caseOf s) k st)) →
               JudgedAs s k l d r l′
           unfolding aboveTold byRun stateOf failureMeant
           judged-use r above h a uses =
               let passed : (c : List Bool) → accepts tt ≡ inOrder (shapeChecks (caseOf s) k (stateOf l c d)) = λ c. sym (ap failureMeant told) ∙ said c in
-              let labels = a .labels ∙ (λ i. joined (λ j. t .left i j .opens) (span i)) in
-              let in-state : (c : List Bool) → AboveIn (caseOf s) k (stateOf l c d) (labelsOf (above .labels .bits)) (above .shared) =
-              λ c. record { labels-are = labels; shared-is = a .shared ∙ (λ i. share (caseOf s) (λ j. t .left i j .opens) (span i)) } in
+              let rests = a .rests ∙ (λ i. together (λ j. t .left i j .rests) (span i)) in
+              let in-state : (c : List Bool) → UsesIn (caseOf s) k l′ d above (stateOf l c d) =
+              λ c. record {
+                spent = refl;
+                table = ap (λ f j. f j .rests) (sym (t .left));
+                rests-are = rests;
+                shared-is = a .shared ∙ (λ i. share (caseOf s) (λ j. t .left i j .rests .opens) (span i));
+              } in
               record {
                 long = t .long;
-                is = λ c. uses (stateOf l c d) refl (in-state c) ∙ shape-passed (caseOf s) k (stateOf l c d) (passed c);
-                above = λ c. ap (λ x. labelsOf (x .bits)) h ∙ labels ∙ rw (← passed c);
+                is = λ c. uses (stateOf l c d) (in-state c) ∙ shape-passed (caseOf s) k (stateOf l c d) (passed c);
+                above = λ c. ap restsMeant h ∙ rests ∙ rw (← passed c);
                 left = left-is;
               }
 
@@ -171,20 +180,21 @@ module _ (s : List ℕ) (k : ℕ) (l : List ℕ) (c d : List Bool) (r : Judged) 
         state = rw (← refused, j .left);
       }
 
-  -- It is accepted, and the tables get what it leaves open and what it cites.
+  -- It is accepted, and the tables get what it rests on and what it cites.
   pub stepped-accepted :
-      (labels : ℕ) (l″ : List ℕ) (c′ d′ : List Bool) (n : Names) (e : Effect) (a : ℕ) →
-      n ≡ ruleOf (caseOf s) k .names → e ≡ ruleOf (caseOf s) k .effect → a ≡ stepArgument s k → r .fault ≡ None → labelsOf labels ≡ leaves e a (labelsOf (r .above .bits)) →
-      (length l″ ≡ 2048) × (leftIn l″ ≡ withOpens (leftIn l′) (update (opensOf l′) k (labelsOf labels))) → CitedMarked n a c d c′ d′ → Stepped s k (stateOf l c d) None l″ c′ d′
+      (rests : Resting) (l″ : List ℕ) (c′ d′ : List Bool) (n : Names) (e : Effect) (a : ℕ) →
+      n ≡ ruleOf (caseOf s) k .names → e ≡ ruleOf (caseOf s) k .effect → a ≡ stepArgument s k → r .fault ≡ None → restsMeant rests ≡ restsOn n e a (restsMeant (r .above)) →
+      (length l″ ≡ 2048) × (leftIn l″ ≡ withRests (leftIn l′) (update (restsOf l′) k (restsMeant rests))) → CitedMarked n a c d c′ d′ → Stepped s k (stateOf l c d) None l″ c′ d′
   unfolding aboveTold afterStep byRun next stateOf caseOf failureMeant
-  stepped-accepted labels l″ c′ d′ n e a n-is e-is a-is told leaving opened m =
+  stepped-accepted rests l″ c′ d′ n e a n-is e-is a-is told leaving opened m =
       let passed : accepts tt ≡ inOrder (stepChecks (caseOf s) k (stateOf l c d)) = sym (ap failureMeant told) ∙ j .is c in
       let fine = no-fault (caseOf s) k (stateOf l c d) passed in
       let used = rw (fine .shaped) at (j .left) ∙ ap (withUsed (leftIn l)) (all-taken (usedOf l) k (premisesOf (caseOf s) k) (fine .free)) in
       let above = rw (← fine .shape) at (j .above c) in
-      let left = opened .1 ∙ (λ i. withOpens (used i) (update (λ x. used i x .opens) k (leaving i))) in
+      let entered = leaving ∙ ap (restsOn n e a) above in
+      let left = opened .1 ∙ (λ i. withRests (used i) (update (λ x. used i x .rests) k (entered i))) in
       record {
         tables = record { left = opened .0; cited = m .cited-long; discharged = m .discharged-long };
         is = passed;
-        state = rw (← passed, left, above, m .cited, m .discharged, n-is, e-is, a-is);
+        state = rw (← passed, left, m .cited, m .discharged, n-is, e-is, a-is);
       }

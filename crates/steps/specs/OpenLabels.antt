@@ -1,4 +1,4 @@
--- The labels that are open above a step, and checks 17 and 19 over them.
+-- What the steps above a step rest on, the labels that are open above it, and checks 17 and 19 over them.
 use Prim.Native.Nat.{ℕ}
 use mathlib.Core.Bool.{Bool, _&&_, _||_}
 use mathlib.Core.Path.{_≡_}
@@ -9,8 +9,8 @@ use Rattle.definition.specs.11-Layout.{label-part, count}
 use Rattle.definition.specs.13-Formulas.{each-use, this-term, has}
 use Rattle.definition.specs.15-Records.{premiseStep, labelMark}
 use Rattle.definition.specs.17-Case.{Case, caseOf}
-use Rattle.definition.specs.22-Steps.{Labels, State, opensIn, premisesOf, isAnObligation, isAdding, isEachUse, joined, share}
-use Rattle.tables.specs.Sets.{labelsOf, opensOf}
+use Rattle.definition.specs.22-Steps.{Labels, Rests, State, restsIn, opensIn, bothRests, premisesOf, isAnObligation, isAdding, isEachUse, together, share}
+use Rattle.tables.specs.Sets.{labelsOf, restsMeant, marks, restsOf, opensOf}
 use Rattle.step_shape.specs.RuleLines.{RuleShape}
 use Rattle.steps.specs.declared.uses.Above.{Above}
 
@@ -22,19 +22,21 @@ unfoldable pub eachUseLabels : List ℕ → Labels
 eachUseLabels s = eachUseBelow s (count s label-part)
 
 -- One premise more, held against those that are there.
-pub record OneMore (eachUse premise : Labels) (before after : Above) : Type 0 where
-  pub labels : labelsOf (after .labels .bits) ≡ (λ l. premise l || labelsOf (before .labels .bits) l)
-  pub shared : after .shared ≡ (any (λ l. eachUse l && premise l && labelsOf (before .labels .bits) l) 32 0 || before .shared)
+pub record OneMore (eachUse : Labels) (premise : Rests) (before after : Above) : Type 0 where
+  pub rests : restsMeant (after .rests) ≡ bothRests premise (restsMeant (before .rests))
+  pub shared : after .shared ≡ (any (λ l. eachUse l && premise .opens l && labelsOf (before .rests .opens .bits) l) 32 0 || before .shared)
 
--- What the premises of the span leave open together, and whether two of them share an each-use label.
+-- What the premises of the span rest on together, and whether two of them share an each-use label.
 pub record IsAbove (s : List ℕ) (from len : ℕ) (left : List ℕ) (r : Above) : Type 0 where
-  pub labels : labelsOf (r .labels .bits) ≡ joined (opensOf left) (listed (premiseStep s) len from)
+  pub rests : restsMeant (r .rests) ≡ together (restsOf left) (listed (premiseStep s) len from)
   pub shared : r .shared ≡ share (caseOf s) (opensOf left) (listed (premiseStep s) len from)
 
--- The same of the premises of step k, in a state.
-pub record AboveIn (c : Case) (k : ℕ) (s : State) (labels : Labels) (shared : Bool) : Type 0 where
-  pub labels-are : labels ≡ joined (opensIn s) (premisesOf c k)
-  pub shared-is : shared ≡ share c (opensIn s) (premisesOf c k)
+-- The same of the premises of step k, in a state in which the steps rest on what the table has, and the obligations discharged are those of the other.
+pub record UsesIn (c : Case) (k : ℕ) (left : List ℕ) (discharged : List Bool) (above : Above) (s : State) : Type 0 where
+  pub spent : s .discharged ≡ marks discharged
+  pub table : restsIn s ≡ restsOf left
+  pub rests-are : restsMeant (above .rests) ≡ together (restsIn s) (premisesOf c k)
+  pub shared-is : above .shared ≡ share c (opensIn s) (premisesOf c k)
 
 -- Check 17, from the obligations discharged before, the labels that the premises leave open together, and whether two of them share an each-use label.
 unfoldable pub twiceUsed : Case → RuleShape → ℕ → (discharged : ℕ → Bool) → (above : Labels) → (shared : Bool) → Bool

@@ -1,13 +1,13 @@
 -- What the code promises of a step: its answer, and every entry of its tables, after a refusal too.
 use Prim.Native.Nat.{ℕ}
-use mathlib.Core.Bool.{Bool, false, cond}
+use mathlib.Core.Bool.{Bool, cond}
 use mathlib.Core.Path.{_≡_}
 use mathlib.Core.List.{List}
 use lib.ListN.{length}
 use Rattle.definition.specs.04-Checks.{Checked, accepts, refuses, inOrder}
 use Rattle.definition.specs.17-Case.{Case, caseOf}
-use Rattle.definition.specs.22-Steps.{Labels, State, opensIn, usedIn, premisesOf, misshapen, joined, next, shapeChecks, stepChecks, withUsed}
-use Rattle.tables.specs.Sets.{labelsOf, leftIn, usedOf}
+use Rattle.definition.specs.22-Steps.{Rests, State, restsIn, usedIn, noRests, premisesOf, misshapen, together, next, shapeChecks, stepChecks, withUsed}
+use Rattle.tables.specs.Sets.{restsMeant, leftIn, usedOf}
 use Rattle.words.specs.declared.runs.Failure.{Failure}
 use Rattle.words.specs.Meanings.{failureMeant}
 use Rattle.step_shape.specs.TakenPremises.{takes}
@@ -32,19 +32,19 @@ touched c k s =
 unfoldable pub afterStep : Case → ℕ → State → State
 afterStep c k s = byRun (inOrder (stepChecks c k s)) (next c k s) (touched c k s)
 
--- The labels told beside the answer to step k: those that its premises leave open together, and none where one of checks 12 to 16 fails.
-unfoldable pub aboveTold : Case → ℕ → State → Labels
-aboveTold c k s = byRun (inOrder (shapeChecks c k s)) (joined (opensIn s) (premisesOf c k)) (λ l. false)
+-- What is told beside the answer to step k: what its premises rest on together, and nothing where one of checks 12 to 16 fails.
+unfoldable pub aboveTold : Case → ℕ → State → Rests
+aboveTold c k s = byRun (inOrder (shapeChecks c k s)) (together (restsIn s) (premisesOf c k)) noRests
 
--- Refused by one of checks 12 to 16, with no labels.
+-- Refused by one of checks 12 to 16, with nothing told beside it.
 abbrev pub RefusedBy : (number place : ℕ) → Judged → Type 0
-RefusedBy n p r = (failureMeant (r .fault) ≡ refuses n p) × (labelsOf (r .above .bits) ≡ (λ l. false))
+RefusedBy n p r = (failureMeant (r .fault) ≡ refuses n p) × (restsMeant (r .above) ≡ noRests)
 
 -- What its checks find of step k, and every entry of the table of steps. The rows cited have no part in it.
 pub record JudgedAs (f : List ℕ) (k : ℕ) (l : List ℕ) (d : List Bool) (r : Judged) (l′ : List ℕ) : Type 0 where
   pub long : length l′ ≡ 2048
   pub is : (c : List Bool) → failureMeant (r .fault) ≡ inOrder (stepChecks (caseOf f) k (stateOf l c d))
-  pub above : (c : List Bool) → labelsOf (r .above .bits) ≡ aboveTold (caseOf f) k (stateOf l c d)
+  pub above : (c : List Bool) → restsMeant (r .above) ≡ aboveTold (caseOf f) k (stateOf l c d)
   pub left : leftIn l′ ≡ withUsed (leftIn l) (cond (misshapen (caseOf f) k) (usedOf l) (takes (usedOf l) k (premisesOf (caseOf f) k)))
 
 -- Step k from the state s: the first check that fails, and every entry of the tables.

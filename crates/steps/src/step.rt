@@ -1,7 +1,8 @@
 // A step: its checks in order, and the tables after it.
 use crate::fresh::not_fresh;
+use crate::refining::no_tautology;
 use crate::uses::Above;
-use crate::uses::open_above;
+use crate::uses::rests_above;
 use crate::uses::used_twice;
 use case_parts::Step;
 use case_parts::step_at;
@@ -14,25 +15,27 @@ use step_shape::misshapen;
 use step_shape::shape_of;
 use step_shape::take_premises;
 use tables::OpenSet;
-use tables::set_opens;
+use tables::Resting;
+use tables::set_rests;
 use words::Failure;
 ghost use mathlib.Core.Path.{_≡_};
+ghost use mathlib.Core.Bool.{_||_};
 ghost use Prim.Native.Nat.{_<_};
 ghost use lib.ListN.{length};
 ghost use Rattle.definition.specs.04-Checks.{inOrder};
 ghost use Rattle.definition.specs.11-Layout.{step-part, count};
 ghost use Rattle.definition.specs.17-Case.{caseOf};
-ghost use Rattle.definition.specs.22-Steps.{State, leaves as leavesOf, ruleOf, useChecks};
+ghost use Rattle.definition.specs.22-Steps.{State, restsIn, opensIn, isEvidence, joined, premisesOf, leaves as leavesOf, restsOn, ruleOf, aboveChecks, useChecks};
 ghost use Rattle.words.specs.Meanings.{failureMeant};
 ghost use Rattle.case_parts.specs.Records.{StepFields};
-ghost use Rattle.tables.specs.Sets.{labelsOf, marks};
-ghost use Rattle.case_file.specs.LentCase.{CaseLent};
+ghost use Rattle.tables.specs.Sets.{labelsOf, restsMeant, restsOf};
+ghost use Rattle.case_file.specs.LentCase.{Lent, CaseLent};
 ghost use Rattle.case_parts.specs.ShapedSteps.{EarlierNumbered};
 ghost use Rattle.step_shape.specs.Meanings.{namesMeant, effectMeant, shapeMeant};
 ghost use Rattle.step_shape.specs.RuleLines.{shapeOf};
 ghost use Rattle.case_parts.specs.ShapedSteps.{ShapedStep};
 ghost use Rattle.steps.specs.CitedEntries.{LabelThere, CitedThere, CitedMarked};
-ghost use Rattle.steps.specs.OpenLabels.{eachUseLabels, AboveIn};
+ghost use Rattle.steps.specs.OpenLabels.{eachUseLabels, UsesIn};
 ghost use Rattle.steps.specs.StepAnswers.{RefusedBy, JudgedAs, Stepped};
 ghost use Rattle.steps.specs.WorkingTables.{stateOf, Tables};
 
@@ -45,6 +48,32 @@ fn leaves(effect: Effect, argument: u16, above: OpenSet) -> OpenSet
         Effect::Keeps => above,
         Effect::Adds => above.add(argument as u32),
         Effect::Closes => above.close(argument as u32),
+    }
+}
+
+// Does a step cite evidence, or does a step above it?
+fn cites(names: Names, above: bool) -> bool
+    ensures { λ r. ⌜ r ≡ (isEvidence (namesMeant names) || above) ⌝ }
+{
+    match names {
+        Names::Nothing => above,
+        Names::Label => above,
+        Names::Condition => true,
+        Names::Row => true,
+        Names::Obligation => true,
+        Names::Term => above,
+    }
+}
+
+// What a step rests on, from what its premises rest on together.
+fn rests_on(names: Names, effect: Effect, argument: u16, above: Resting) -> Resting
+    requires { ⌜ LabelThere (effectMeant effect) argument ⌝ }
+    ensures { λ r. ⌜ restsMeant r ≡ restsOn (namesMeant names) (effectMeant effect) argument (restsMeant above) ⌝ }
+{
+    let opens = leaves(effect, argument, above.opens);
+    Resting {
+        opens,
+        cites: cites(names, above.cites),
     }
 }
 
@@ -67,7 +96,29 @@ fn mark_cited(names: Names, argument: u16, cited: &mut [bool; 1024], discharged:
     }
 }
 
-// How step `k` uses what it rests on: check 17, whether it fits, check 19, over what its premises leave open, in any state in which that is so.
+// What the premises of step `k` rest on: checks 19 and 28, in any state in which the steps rest on what the table has. `above` are the labels that its premises leave open together.
+fn check_above(
+    file: &[u8],
+    book: &[u8],
+    k: usize,
+    step: Step,
+    above: OpenSet,
+    left: &[u64; 2048],
+) -> Failure
+    requires { ⌜ Lent (now file) (now book) × (length (now left) ≡ 2048) ⌝ }
+    requires { ⌜ ShapedStep (now file) k × StepFields (now file) k step ⌝ }
+    ensures { λ r. ⌜ ((s : State) → restsIn s ≡ restsOf (now (left .entry)) → labelsOf (above .bits) ≡ joined (opensIn s) (premisesOf (caseOf (now (file .entry))) k) → failureMeant r ≡ inOrder (aboveChecks (caseOf (now (file .entry))) k s)) ⌝ }
+{
+    if not_fresh(file, book, k, step, above) {
+        return Failure::At(19, k as u16);
+    }
+    if no_tautology(file, k, step, left) {
+        return Failure::At(28, k as u16);
+    }
+    Failure::None
+}
+
+// How step `k` uses what it names: check 17, whether it fits, checks 19 and 28, over what its premises rest on, in any state in which that is so.
 fn check_uses(
     file: &[u8],
     book: &[u8],
@@ -77,12 +128,13 @@ fn check_uses(
     shape: Shape,
     above: Above,
     each_use: OpenSet,
+    left: &[u64; 2048],
     discharged: &[bool; 64],
 ) -> Failure
-    requires { ⌜ CaseLent (now file) (now book) (now views) × (length (now discharged) ≡ 64) ⌝ }
+    requires { ⌜ CaseLent (now file) (now book) (now views) × (length (now left) ≡ 2048) × (length (now discharged) ≡ 64) ⌝ }
     requires { ⌜ ShapedStep (now file) k × StepFields (now file) k step ⌝ }
     requires { ⌜ (shapeMeant shape ≡ shapeOf (ruleOf (caseOf (now file)) k)) × (labelsOf (each_use .bits) ≡ eachUseLabels (now file)) ⌝ }
-    ensures { λ r. ⌜ ((s : State) → s .discharged ≡ marks (now (discharged .entry)) → AboveIn (caseOf (now (file .entry))) k s (labelsOf (above .labels .bits)) (above .shared) → failureMeant r ≡ inOrder (useChecks (caseOf (now (file .entry))) k s)) ⌝ }
+    ensures { λ r. ⌜ ((s : State) → UsesIn (caseOf (now (file .entry))) k (now (left .entry)) (now (discharged .entry)) above s → failureMeant r ≡ inOrder (useChecks (caseOf (now (file .entry))) k s)) ⌝ }
 {
     if used_twice(file, shape, step.argument, above, each_use, discharged) {
         return Failure::At(17, k as u16);
@@ -91,19 +143,16 @@ fn check_uses(
     match fit {
         Failure::At(number, place) => Failure::At(number, place),
         Failure::None => {
-            let labels = above.labels;
-            if not_fresh(file, book, k, step, labels) {
-                return Failure::At(19, k as u16);
-            }
-            Failure::None
+            let rests = above.rests;
+            check_above(file, book, k, step, rests.opens, left)
         }
     }
 }
 
-// What a step comes to: the first of its checks that fails, and the labels that its premises leave open together, none where one of 12 to 16 fails.
+// What a step comes to: the first of its checks that fails, and what its premises rest on together, nothing where one of 12 to 16 fails.
 pub struct Judged {
     pub fault: Failure,
-    pub above: OpenSet,
+    pub above: Resting,
 }
 
 // Refused by one of checks 12 to 16.
@@ -112,7 +161,7 @@ fn refused(number: u16, place: u16) -> Judged
 {
     Judged {
         fault: Failure::At(number, place),
-        above: OpenSet::empty(),
+        above: Resting::nothing(),
     }
 }
 
@@ -148,7 +197,7 @@ fn check_step(
     match cited {
         Failure::At(number, at) => refused(number, at),
         Failure::None => {
-            let above = open_above(file, from, len, left, each_use);
+            let above = rests_above(file, from, len, left, each_use);
             let fault = check_uses(
                 file,
                 book,
@@ -158,12 +207,13 @@ fn check_step(
                 shape,
                 above,
                 each_use,
+                left,
                 discharged,
             );
-            let labels = above.labels;
+            let rests = above.rests;
             Judged {
                 fault,
-                above: labels,
+                above: rests,
             }
         }
     }
@@ -202,10 +252,10 @@ pub fn take_step(
     match fault {
         Failure::At(number, place) => Failure::At(number, place),
         Failure::None => {
-            let effect = shape.effect;
-            let labels = leaves(effect, step.argument, judged.above);
-            set_opens(left, k, labels);
             let names = shape.names;
+            let effect = shape.effect;
+            let rests = rests_on(names, effect, step.argument, judged.above);
+            set_rests(left, k, rests);
             mark_cited(names, step.argument, cited, discharged);
             Failure::None
         }

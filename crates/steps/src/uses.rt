@@ -1,4 +1,4 @@
-// Check 17: what may be used once only. And the labels that the premises of a step leave open together.
+// Check 17: what may be used once only. And what the premises of a step rest on together.
 use case_parts::LABELS;
 use case_parts::count_of;
 use case_parts::label_at;
@@ -8,7 +8,8 @@ use step_shape::Effect;
 use step_shape::Names;
 use step_shape::Shape;
 use tables::OpenSet;
-use tables::opens_at;
+use tables::Resting;
+use tables::rests_at;
 ghost use mathlib.Core.Path.{_≡_};
 ghost use mathlib.Core.Bool.{false, _&&_};
 ghost use Prim.Native.Nat.{_+_, _<_, _≤_};
@@ -19,43 +20,45 @@ ghost use Rattle.definition.specs.11-Layout.{label-part, premise-part, count};
 ghost use Rattle.definition.specs.15-Records.{obligationMark};
 ghost use Rattle.definition.specs.18-Admission.{Parted};
 ghost use Rattle.definition.specs.17-Case.{caseOf};
-ghost use Rattle.definition.specs.22-Steps.{isAnObligation, isAdding};
-ghost use Rattle.tables.specs.Sets.{labelsOf, marks};
+ghost use Rattle.definition.specs.22-Steps.{noRests, isAnObligation, isAdding};
+ghost use Rattle.tables.specs.Sets.{labelsOf, restsMeant, marks};
 ghost use Rattle.steps.specs.OpenLabels.{eachUseBelow, eachUseLabels, OneMore, IsAbove, twiceUsed};
 ghost use Rattle.steps.specs.CitedEntries.{ObligationThere, LabelThere, EntryThere};
 ghost use Rattle.case_parts.specs.ShapedSteps.{PremisesBelow};
 ghost use Rattle.step_shape.specs.Meanings.{namesMeant, effectMeant, shapeMeant};
 
-// What the premises of a step leave open together, and whether two of them leave the same each-use label open.
+// What the premises of a step rest on together, and whether two of them leave the same each-use label open.
 pub struct Above {
-    pub labels: OpenSet,
+    pub rests: Resting,
     pub shared: bool,
 }
 
 impl Above {
     // Of no premises.
     pub fn nothing() -> Above
-        ensures { λ r. ⌜ (labelsOf (r .labels .bits) ≡ (λ l. false)) × (r .shared ≡ false) ⌝ }
+        ensures { λ r. ⌜ (restsMeant (r .rests) ≡ noRests) × (r .shared ≡ false) ⌝ }
     {
         Above {
-            labels: OpenSet::empty(),
+            rests: Resting::nothing(),
             shared: false,
         }
     }
 
-    // With one premise more, which leaves the labels of `premise` open.
-    pub fn with(self, premise: OpenSet, each_use: OpenSet) -> Above
-        ensures { λ r. ⌜ OneMore (labelsOf (each_use .bits)) (labelsOf (premise .bits)) self r ⌝ }
+    // With one premise more, which rests on `premise`.
+    pub fn with(self, premise: Resting, each_use: OpenSet) -> Above
+        ensures { λ r. ⌜ OneMore (labelsOf (each_use .bits)) (restsMeant premise) self r ⌝ }
     {
-        let labels = premise.join(self.labels);
-        if premise.shares(self.labels, each_use) {
+        let before = self.rests;
+        let rests = premise.join(before);
+        let labels = premise.opens;
+        if labels.shares(before.opens, each_use) {
             return Above {
-                labels,
+                rests,
                 shared: true,
             };
         }
         Above {
-            labels,
+            rests,
             shared: self.shared,
         }
     }
@@ -90,7 +93,7 @@ pub fn each_use_labels(file: &[u8]) -> OpenSet
 }
 
 // Of the `len` premises from `from` on. The last comes first: each is held against those behind it.
-pub fn open_above(
+pub fn rests_above(
     file: &[u8],
     from: usize,
     len: usize,
@@ -107,7 +110,7 @@ pub fn open_above(
     while from < j {
         j -= 1;
         let p = premise_step(file, j) as usize;
-        above = above.with(opens_at(left, p), each_use);
+        above = above.with(rests_at(left, p), each_use);
     }
     above
 }
@@ -165,7 +168,7 @@ pub fn used_twice(
     requires { ⌜ Parted (now file) × (length (now discharged) ≡ 64) ⌝ }
     requires { ⌜ EntryThere (now file) (shapeMeant shape) argument ⌝ }
     requires { ⌜ labelsOf (each_use .bits) ≡ eachUseLabels (now file) ⌝ }
-    ensures { λ r. ⌜ r ≡ twiceUsed (caseOf (now (file .entry))) (shapeMeant shape) argument (marks (now (discharged .entry))) (labelsOf (above .labels .bits)) (above .shared) ⌝ }
+    ensures { λ r. ⌜ r ≡ twiceUsed (caseOf (now (file .entry))) (shapeMeant shape) argument (marks (now (discharged .entry))) (labelsOf (above .rests .opens .bits)) (above .shared) ⌝ }
 {
     let names = shape.names;
     if discharged_before(file, names, argument, discharged) {
@@ -175,5 +178,6 @@ pub fn used_twice(
         return true;
     }
     let effect = shape.effect;
-    open_before(effect, argument, above.labels, each_use)
+    let rests = above.rests;
+    open_before(effect, argument, rests.opens, each_use)
 }

@@ -9,10 +9,10 @@ use lib.Seq.{getD-set-same, getD-set-other}
 use lib.Dec.{eqb}
 use borrow.Author.Tests.{eqb-true, eqb-false}
 use Rattle.definition.specs.02-Ranges.{any, update}
-use Rattle.definition.specs.22-Steps.{Labels, Left, withOpens, withUsed}
+use Rattle.definition.specs.22-Steps.{Rests, Left, withRests, withUsed}
 use Rattle.definition.proofs.Tests.{not-both, one-answer}
 use Rattle.definition.proofs.RangeLaws.{any-true, any-some}
-use Rattle.tables.specs.Sets.{marks, leftOf, leftIn, opensOf, usedOf}
+use Rattle.tables.specs.Sets.{marks, leftOf, leftIn, restsOf, usedOf}
 
 -- An assignment, in a table whose entries are read by f.
 set-updates :
@@ -37,17 +37,17 @@ update-own f k = fun-ext (λ j. go j (eqb j k) refl)
     go j true e = rw (e, eqb-true j k e)
     go j false e = rw e
 
--- An entry of the table of what the steps leave behind: other labels, or the mark that it is used.
+-- An entry of the table of what the steps leave behind: of a step that rests on other things, or is used.
 module _ (t : List ℕ) (k n : ℕ) (h : k < length t) where
   entry-set : {A : Type 0} (f : Left → A) {v : A} → f (leftOf n) ≡ v → (λ j. f (leftIn (set t k n) j)) ≡ update (λ j. f (leftIn t j)) k v
   unfolding leftIn
   entry-set f e = fun-ext (set-updates (λ m. f (leftOf m)) t 0 k n h) ∙ ap (update (λ j. f (leftIn t j)) k) e
 
-  pub opens-set : {ls : Labels} → leftOf n .opens ≡ ls → leftOf n .used ≡ usedOf t k → leftIn (set t k n) ≡ withOpens (leftIn t) (update (opensOf t) k ls)
-  opens-set e f = λ i j. record { opens = entry-set (λ v. v .opens) e i j; used = (entry-set (λ v. v .used) f ∙ update-own (usedOf t) k) i j }
+  pub rests-set : {r : Rests} → leftOf n .rests ≡ r → leftOf n .used ≡ usedOf t k → leftIn (set t k n) ≡ withRests (leftIn t) (update (restsOf t) k r)
+  rests-set e f = λ i j. record { rests = entry-set (λ v. v .rests) e i j; used = (entry-set (λ v. v .used) f ∙ update-own (usedOf t) k) i j }
 
-  pub used-set : leftOf n .opens ≡ opensOf t k → leftOf n .used ≡ true → leftIn (set t k n) ≡ withUsed (leftIn t) (update (usedOf t) k true)
-  used-set e f = λ i j. record { opens = (entry-set (λ v. v .opens) e ∙ update-own (opensOf t) k) i j; used = entry-set (λ v. v .used) f i j }
+  pub used-set : leftOf n .rests ≡ restsOf t k → leftOf n .used ≡ true → leftIn (set t k n) ≡ withUsed (leftIn t) (update (usedOf t) k true)
+  used-set e f = λ i j. record { rests = (entry-set (λ v. v .rests) e ∙ update-own (restsOf t) k) i j; used = entry-set (λ v. v .used) f i j }
 
 -- A table of one value.
 pub getD-replicated : {A : Type 0} (n : ℕ) (x : A) (j : ℕ) → getD (replicate n x) j x ≡ x

@@ -1,19 +1,20 @@
 -- A number's binary digits as a set of labels: `|`, `&` and `^` act on each digit by itself, a power of two has one digit, and a number below 2 ^ w
 -- has none from w on. Assumes nothing.
-use Prim.Native.Nat.{ℕ, zero, suc, _+_, _*_, _/_, _%_, _^_, _≤_, _<_, compare·suc-suc}
+use Prim.Native.Nat.{ℕ, zero, suc, _+_, _-_, _*_, _/_, _%_, _^_, _≤_, _<_, compare·suc-suc}
 use mathlib.Core.Path.{_≡_, refl, sym, ap, _∙_, fun-ext}
 use mathlib.Core.Bool.{Bool, true, false, not, cond, _&&_, _||_}
 use mathlib.Core.Logic.{_⊎_, inl, inr}
-use native.Mathlib.Nat.{zero-div, div-one, div-eq-of-lt, pow-suc, mul-mod-left, mul-div-mul-right, one-mul}
+use native.Mathlib.Nat.{zero-div, div-one, div-eq-of-lt, pow-suc, mul-mod-left, mul-div-mul-right, one-mul, mod-lt}
 use native.Mathlib.Omega.{arith}
 use lib.Bits.{bitAnd, bitOr, bitXor, and-shr, or-shr, xor-shr, and-mod, or-mod, xor-mod, and-le-r}
 use lib.Dec.{eqb, isEq}
-use lib.Pow.{pow-lt, pow-mono, shl-exact, shr-shr}
+use lib.Pow.{pow-lt, pow-mono, pow-pos, shl-exact, shr-shr, field, mod-mod-pow}
 use borrow.Author.Tests.{ne-eqb, eqb-false, not-true}
 use Rattle.definition.specs.02-Ranges.{any, update}
 use Rattle.definition.proofs.Tests.{not-both, one-answer}
 use Rattle.definition.proofs.RangeLaws.{any-true, any-some}
 use Rattle.tables.specs.Sets.{labelsOf}
+use Rattle.tables.proofs.Assignments.{any-as}
 
 -- The digit of n for label l, which is 0 or 1.
 abbrev digit : ℕ → ℕ → ℕ
@@ -127,6 +128,19 @@ any-label w n h =
       λ e z. let r = any-true (labelsOf n) w 0 e in not-both (r .3) (ap (λ (x : ℕ). labelsOf x (r .0)) z ∙ ap (λ (s : ℕ → Bool). s (r .0)) labels-none),
       λ ne. let r = some-label w n h ne in any-some (labelsOf n) w 0 (r .0) (omega arith) (omega arith) (r .2),
     )
+
+-- The digits below w of n are those of what is left of n by 2 ^ w; so that is not 0 just if one of the first w labels is in n.
+low-label : (w n l : ℕ) → l < w → labelsOf (n % 2 ^ w) l ≡ labelsOf n l
+unfolding labelsOf
+low-label w n l lt =
+    let all : w ≡ w - l + l = omega arith in
+    let one : w - l ≡ w - l - 1 + 1 = omega arith in
+    ap (λ (x : ℕ). eqb (x % 2) 1) (ap (λ (x : ℕ). n % 2 ^ x / 2 ^ l) all ∙ field n (w - l) l)
+    ∙ ap (λ (x : ℕ). eqb (n / 2 ^ l % 2 ^ x % 2) 1) one
+    ∙ ap (λ (x : ℕ). eqb x 1) (mod-mod-pow (n / 2 ^ l) (w - l - 1) 1)
+
+pub any-below : (w n : ℕ) → not (eqb (n % 2 ^ w) 0) ≡ any (labelsOf n) w 0
+any-below w n = any-label w (n % 2 ^ w) (mod-lt n (pow-pos w)) ∙ any-as (labelsOf (n % 2 ^ w)) (labelsOf n) w w (omega arith) (low-label w n) (λ l up lt. absurd (omega arith))
 
 -- Three sets share a label just if `&` of the three is not 0.
 pub any-shared :

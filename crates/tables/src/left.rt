@@ -1,12 +1,13 @@
-// The table of what the steps leave behind. Of an entry, the binary digits 0 to 31 are the labels that the step leaves open, and digit 32 tells that a later step has it as a premise.
+// The table of what the steps leave behind. Of an entry, the binary digits 0 to 31 are the labels that the step leaves open, digit 32 tells that a later step has it as a premise, and digit 33 that it or a step above it cites evidence.
 use crate::open_set::OpenSet;
+use crate::rests::Resting;
 ghost use mathlib.Core.Path.{_≡_};
 ghost use mathlib.Core.Bool.{true, not};
 ghost use Prim.Native.Nat.{_<_, _≤_};
 ghost use lib.ListN.{length};
 ghost use Rattle.definition.specs.02-Ranges.{lowest, update};
-ghost use Rattle.definition.specs.22-Steps.{withOpens, withUsed};
-ghost use Rattle.tables.specs.Sets.{labelsOf, leftIn, opensOf, usedOf};
+ghost use Rattle.definition.specs.22-Steps.{withRests, withUsed};
+ghost use Rattle.tables.specs.Sets.{labelsOf, restsMeant, leftIn, restsOf, opensOf, usedOf};
 
 // The labels that step `k` leaves open.
 pub fn opens_at(left: &[u64; 2048], k: usize) -> OpenSet
@@ -18,12 +19,29 @@ pub fn opens_at(left: &[u64; 2048], k: usize) -> OpenSet
     }
 }
 
-// Step `k` leaves these labels open, and no others.
-pub fn set_opens(left: &mut [u64; 2048], k: usize, labels: OpenSet)
-    requires { ⌜ (k < 2048) × (length (now left) ≡ 2048) ⌝ }
-    ensures { λ _. ⌜ (length (now (left .exit)) ≡ 2048) × (leftIn (now (left .exit)) ≡ withOpens (leftIn (now (left .entry))) (update (opensOf (now (left .entry))) k (labelsOf (labels .bits)))) ⌝ }
+// What step `k` rests on.
+pub fn rests_at(left: &[u64; 2048], k: usize) -> Resting
+    requires { ⌜ k < 2048 ⌝ }
+    ensures { λ r. ⌜ restsMeant r ≡ restsOf (now (left .entry)) k ⌝ }
 {
-    left[k] = ((left[k] >> 32) << 32) + labels.bits as u64;
+    Resting {
+        opens: opens_at(left, k),
+        cites: (left[k] >> 33) % 2 == 1,
+    }
+}
+
+// Step `k` rests on this, and on nothing else.
+pub fn set_rests(left: &mut [u64; 2048], k: usize, rests: Resting)
+    requires { ⌜ (k < 2048) × (length (now left) ≡ 2048) ⌝ }
+    ensures { λ _. ⌜ (length (now (left .exit)) ≡ 2048) × (leftIn (now (left .exit)) ≡ withRests (leftIn (now (left .entry))) (update (restsOf (now (left .entry))) k (restsMeant rests))) ⌝ }
+{
+    let labels = rests.opens;
+    let used = (left[k] >> 32) % 2;
+    if rests.cites {
+        left[k] = ((used + 2) << 32) + labels.bits as u64;
+        return;
+    }
+    left[k] = (used << 32) + labels.bits as u64;
 }
 
 // Does a later step have step `k` as a premise?

@@ -1,7 +1,7 @@
 // The labels that a step leaves open: a value that is handed on from step to step.
 ghost use mathlib.Core.Path.{_≡_};
 ghost use mathlib.Core.Bool.{true, false, _&&_, _||_};
-ghost use Prim.Native.Nat.{_<_};
+ghost use Prim.Native.Nat.{_<_, _≤_};
 ghost use Rattle.definition.specs.02-Ranges.{any, update};
 ghost use Rattle.tables.specs.Sets.{labelsOf};
 
@@ -49,6 +49,15 @@ impl OpenSet {
         ensures { λ r. ⌜ r ≡ any (λ l. labelsOf (each_use .bits) l && labelsOf (self .bits) l && labelsOf (other .bits) l) 32 0 ⌝ }
     {
         (each_use.bits & self.bits) & other.bits != 0
+    }
+
+    // Is one of the first `n` labels in the set?
+    pub fn some_below(self, n: u32) -> bool
+        requires { ⌜ n ≤ 32 ⌝ }
+        ensures { λ r. ⌜ r ≡ any (labelsOf (self .bits)) n 0 ⌝ }
+    {
+        let power: u64 = 1 << n;
+        (self.bits as u64) % power != 0
     }
 
     pub fn has(self, label: u32) -> bool

@@ -81,8 +81,8 @@ refused-requires-3 c κs = search needs
 enum-told : tie.Need-enum-told
 enum-told c = search needs
 
-open-above-requires : tie.Need-open-above-requires
-open-above-requires c κs =
+rests-above-requires : tie.Need-rests-above-requires
+rests-above-requires c κs =
     let e = c .before .before .before .before in
     let t = e .before in
     let st = begin t in
@@ -95,7 +95,8 @@ open-above-requires c κs =
 
 check-uses-requires : tie.Need-check-uses-requires
 check-uses-requires c κs =
-    let told = c .before .before in
+    let above = c .before in
+    let told = above .before .before in
     let cited = told .before .before in
     let e = cited .before in
     let t = e .before in
@@ -103,7 +104,7 @@ check-uses-requires c κs =
     let pre = st .pre in
     let is = pre .1 .1 .0 .0 in
     let stands = shaped-step _ _ _ (st .args .discharged .now) _ _ _ _ (fine t) (is .from) (is .len) (t .take-premises .ensures) (e .if2 .left) _ (cites cited) (told .enum-told .given .1) (pre .1 .0 .0) (pre .1 .0 .1) in
-    ((pre .0 .0, pre .1 .1 .1 .1), ((stands, is), (pre .1 .1 .0 .1, pre .0 .1)))
+    ((pre .0 .0, t .take-premises .ensures .long, pre .1 .1 .1 .1), ((stands, is), (pre .1 .1 .0 .1, pre .0 .1)))
 
 returns-3 : tie.Need-returns-3
 returns-3 c =
@@ -116,13 +117,13 @@ returns-3 c =
 
 returns-4 : tie.Need-returns-4
 returns-4 c =
-    let above = c .before .before in
+    let above = c .before .before .before in
     let told = above .before .before in
     let cited = told .before .before in
     let e = cited .before in
     let t = e .before in
     let is = begin t .pre .1 .1 .0 .0 in
-    judged-use _ _ _ _ _ _ _ _ (fine t) (is .from) (is .len) (t .take-premises .ensures) (e .if2 .left) _ (cites cited) (told .enum-told .given .1) _ (above .open-above .result) refl (above .open-above .ensures) (c .before .check-uses .ensures)
+    judged-use _ _ _ _ _ _ _ _ (fine t) (is .from) (is .len) (t .take-premises .ensures) (e .if2 .left) _ (cites cited) (told .enum-told .given .1) _ (above .rests-above .result) refl (above .rests-above .ensures) (c .before .check-uses .ensures)
 
 pub check-step-spec : {M : Type 1} → statement M
 check-step-spec =
@@ -141,7 +142,7 @@ check-step-spec =
     enum-known-cited
     refused-requires-3
     enum-told
-    open-above-requires
+    rests-above-requires
     check-uses-requires
     returns-3
     returns-4)

@@ -5,12 +5,12 @@ use Rattle.words.specs.Meanings.{failureMeant}
 use Rattle.steps.proofs.step.refused.Statement.{statement}
 use Rattle.steps.proofs.step.refused.Tie as tie
 
-empty-requires : tie.Need-empty-requires
-empty-requires c κs = search needs
+nothing-requires : tie.Need-nothing-requires
+nothing-requires c κs = search needs
 
 returns : tie.Need-returns
 unfolding failureMeant
-returns c = (refl, c .empty .ensures)
+returns c = (refl, c .nothing .ensures)
 
 pub refused-spec : {M : Type 1} → statement M
-refused-spec = tie.close (tie.spec empty-requires returns)
+refused-spec = tie.close (tie.spec nothing-requires returns)

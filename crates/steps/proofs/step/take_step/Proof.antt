@@ -60,17 +60,17 @@ enum-known-fault c = search needs
 enum-told : tie.Need-enum-told
 enum-told c = search needs
 
-leaves-requires : tie.Need-leaves-requires
+rests-on-requires : tie.Need-rests-on-requires
 unfolding caseOf ruleOf shapeOf ruleShape
-leaves-requires c κs =
+rests-on-requires c κs =
     let j = c .before .before in
     let st = begin j in
     let s = st .args .file .now in
     let step = j .before .before .before .before .step-at .ensures in
     label-there-as _ _ _ _ (effect-is j) (step .argument) (entries-there s (parted (st .pre .0 .0 .lent)) (stepArgument s (st .args .k)) (stepRule s (st .args .k)) (there c) .label)
 
-set-opens-requires : tie.Need-set-opens-requires
-set-opens-requires c κs = let j = c .before .before .before .before in let pre = begin j .pre in (omega (arith, pre .1 .0 .0, steps-few _ (parted (pre .0 .0 .lent))), j .check-step .ensures .long)
+set-rests-requires : tie.Need-set-rests-requires
+set-rests-requires c κs = let j = c .before .before .before .before in let pre = begin j .pre in (omega (arith, pre .1 .0 .0, steps-few _ (parted (pre .0 .0 .lent))), j .check-step .ensures .long)
 
 mark-cited-requires : tie.Need-mark-cited-requires
 unfolding caseOf ruleOf
@@ -92,7 +92,7 @@ returns-2 c =
     let e = c .before .before .before .before .before .before in
     let j = e .before .before in
     stepped-accepted _ _ _ _ _ (j .check-step .result) _ (j .check-step .ensures) (begin j .pre .1 .1) _ _ _ _ _ _ _ (names-is j) (effect-is j) (j .before .before .before .before .step-at .ensures .argument)
-    (e .enum-told .given .1) (c .before .before .before .before .before .leaves .ensures) (c .before .before .before .set-opens .ensures) (c .mark-cited .ensures)
+    (e .enum-told .given .1) (c .before .before .before .before .before .rests-on .ensures) (c .before .before .before .set-rests .ensures) (c .mark-cited .ensures)
 
 pub take-step-spec : {M : Type 1} → statement M
 take-step-spec =
@@ -103,8 +103,8 @@ take-step-spec =
     check-step-requires
     enum-known-fault
     enum-told
-    leaves-requires
-    set-opens-requires
+    rests-on-requires
+    set-rests-requires
     mark-cited-requires
     returns
     returns-2)

@@ -24,17 +24,17 @@ returns-2 c = rw (c .if2 .taken, or-true)
 
 open-before-requires : tie.Need-open-before-requires
 unfolding shapeMeant
-open-before-requires c κs = c .before .before .before .before .pre .1 .0 .label
+open-before-requires c κs = c .before .before .before .before .before .pre .1 .0 .label
 
 returns-3 : tie.Need-returns-3
 unfolding twiceUsed shapeMeant caseOf
 returns-3 c =
-    let st = c .before .before .before .before .before in
+    let st = c .before .before .before .before .before .before in
     let s = st .args .file .now in
     let a = st .args .argument in
     let e = st .pre .1 .1 in
-    rw (← c .before .before .before .discharged-before .ensures, c .before .before .if1 .left, c .before .if2 .left)
-    (c .open-before .ensures ∙ rw e (added-is s (isAdding (effectMeant (st .args .shape .effect))) a (labelsOf (st .args .above .labels .bits) a) (st .pre .1 .0 .added)))
+    rw (← c .before .before .before .before .discharged-before .ensures, c .before .before .before .if1 .left, c .before .before .if2 .left)
+    (c .open-before .ensures ∙ rw e (added-is s (isAdding (effectMeant (st .args .shape .effect))) a (labelsOf (st .args .above .rests .opens .bits) a) (st .pre .1 .0 .added)))
 
 pub used-twice-spec : {M : Type 1} → statement M
 used-twice-spec =

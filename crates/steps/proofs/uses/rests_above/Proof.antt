@@ -1,4 +1,4 @@
--- `open_above` meets its contract. The loop's invariant: `above` is of the premises from `j` on. Assumes nothing.
+-- `rests_above` meets its contract. The loop's invariant: `above` is of the premises from `j` on. Assumes nothing.
 use borrow.Author.Needs.{needs}
 use Prim.Native.Nat.{ℕ, _+_, _-_, _≤_}
 use mathlib.Core.Path.{_≡_}
@@ -8,8 +8,8 @@ use Rattle.steps.specs.OpenLabels.{IsAbove}
 use Rattle.steps.specs.declared.uses.Above.{Above}
 use Rattle.case_file.proofs.LentCaseLaws.{labels-few, premises-few}
 use Rattle.steps.proofs.OpenLabelLaws.{above-nothing, above-more}
-use Rattle.steps.proofs.uses.open_above.Statement.{statement}
-use Rattle.steps.proofs.uses.open_above.Tie as tie
+use Rattle.steps.proofs.uses.rests_above.Statement.{statement}
+use Rattle.steps.proofs.uses.rests_above.Tie as tie
 
 record Turn (s : List ℕ) (from len : ℕ) (left : List ℕ) (above : Above) (j : ℕ) : Type 0 where
   begun : from ≤ j
@@ -42,8 +42,8 @@ premise-step-requires c κs = let st = c .before .before .before .before in (st 
 cast-p : tie.Need-cast-p Inv-loop μ-loop
 cast-p c = search needs
 
-opens-at-requires : tie.Need-opens-at-requires Inv-loop μ-loop
-opens-at-requires c κs = let st = c .before .before .before .before .before in let l = c .before .before .loop in omega (arith, c .premise-step .ensures, st .pre .1 .0 .0 (l .j - 1) (omega (arith, c .before .loop-test .taken)) (omega (arith, l .inv .within, c .before .loop-test .taken)))
+rests-at-requires : tie.Need-rests-at-requires Inv-loop μ-loop
+rests-at-requires c κs = let st = c .before .before .before .before .before in let l = c .before .before .loop in omega (arith, c .premise-step .ensures, st .pre .1 .0 .0 (l .j - 1) (omega (arith, c .before .loop-test .taken)) (omega (arith, l .inv .within, c .before .loop-test .taken)))
 
 with-requires : tie.Need-with-requires Inv-loop μ-loop
 with-requires c κs = tt
@@ -63,7 +63,7 @@ loop-again c =
       within = omega (arith, v .within);
       is =
           above-more (st .args .file .now) (st .args .left .now) (st .args .from + st .args .len) (l .j - 1) _ _ _ (l .above) _ (labels-few _ (st .pre .0 .0))
-          (omega (arith, v .within, test .loop-test .taken)) (c .before .before .premise-step .ensures) (st .pre .1 .1) (c .before .opens-at .ensures)
+          (omega (arith, v .within, test .loop-test .taken)) (c .before .before .premise-step .ensures) (st .pre .1 .1) (c .before .rests-at .ensures)
           (rw up (v .is)) (c .with .ensures);
     }
 
@@ -76,8 +76,8 @@ returns c =
     let all : st .args .from + st .args .len - l .j ≡ st .args .len = omega (arith, end) in
     rw (all, end) at (v .is)
 
-pub open-above-spec : {M : Type 1} → statement M
-open-above-spec =
+pub rests-above-spec : {M : Type 1} → statement M
+rests-above-spec =
     tie.close
     (tie.spec
     Inv-loop
@@ -88,7 +88,7 @@ open-above-spec =
     sub-j
     premise-step-requires
     cast-p
-    opens-at-requires
+    rests-at-requires
     with-requires
     loop-less
     loop-again
