@@ -209,11 +209,15 @@ pub fault-behind : (cs : List Check) {ds : List Check} {n p : ℕ} → AllHold c
 fault-behind [] h f = f
 fault-behind (c ∷ cs) h f = later (h .0) (fault-behind cs (h .1) f)
 
--- A check that fails has one of the list's numbers.
-abbrev pub hasNumber : ℕ → List Check → Bool
-hasNumber n [] = false
-hasNumber n (c ∷ cs) = eqb (numberOf c) n || hasNumber n cs
+-- Has a check of the list such a number? And this number?
+abbrev pub hasOne : (ℕ → Bool) → List Check → Bool
+hasOne is [] = false
+hasOne is (c ∷ cs) = is (numberOf c) || hasOne is cs
 
+abbrev pub hasNumber : ℕ → List Check → Bool
+hasNumber n = hasOne (λ m. eqb m n)
+
+-- A check that fails has one of the list's numbers.
 failing-number : (c : Check) (n p : ℕ) → Fails c n p → numberOf c ≡ n
 failing-number (single m q fault) n p f = f .0
 failing-number (each m count fault) n p f = f .0

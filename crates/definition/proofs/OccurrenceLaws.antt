@@ -4,8 +4,8 @@ use mathlib.Core.Path.{_≡_, refl, ap}
 use mathlib.Core.Bool.{true, false, false≢true}
 use mathlib.Core.Logic.{_↔_, ⊎-map}
 use native.Mathlib.Omega.{arith}
-use borrow.Author.Tests.{leb-true, le-leb, eqb-true, eq-eqb}
-use Rattle.definition.proofs.Tests.{or-is, or-is₃, not-is, refutes}
+use borrow.Author.Tests.{leb-true, le-leb}
+use Rattle.definition.proofs.Tests.{equals-is, or-is, or-is₃, not-is, refutes}
 use Rattle.definition.specs.12-Terms.{Sort, agents, data-objects, sameSort, Class, object, parameter, variable, absent-term, no-term, classOf, isObject, isParameter, isVariable, isFree, isInstance}
 use Rattle.definition.specs.13-Formulas.{Formula, predicate, owns, says, and, for-all, implies, after, communicates, creates, user-action, no-formula, Sought, this-term, data-variable, free-variable, isSought, has, closed, isPolicy}
 use Rattle.definition.specs.41-Occurrences.{Somewhere, Mentions, FreeVariable, Closed, DataVariable, MentionsDataVariable, Instance, Policy}
@@ -93,7 +93,7 @@ module _ (w : Sought) (P : ℕ → ℕ → Type 0) (is : (d t : ℕ) → (isSoug
 
 pub mentions-is : (t : ℕ) (f : Formula) → (has (this-term t) 0 f ≡ true) ↔ Mentions t f
 unfolding isSought
-mentions-is t = has-is (this-term t) (λ d u. u ≡ t) (λ d u. (eqb-true u t, eq-eqb u t)) 0
+mentions-is t = has-is (this-term t) (λ d u. u ≡ t) (λ d u. equals-is u t) 0
 
 pub mentions-not : (t : ℕ) (f : Formula) → (has (this-term t) 0 f ≡ false) ↔ (Mentions t f → ⊥)
 mentions-not t f = refutes (mentions-is t f)

@@ -8,7 +8,7 @@ use mathlib.Core.List.{List, [], _∷_, _++_}
 use lib.ListN.{length}
 use lib.Dec.{eqb}
 use borrow.Author.Tests.{eqb-true}
-use Rattle.definition.proofs.CheckLaws.{in-order-append, try-each}
+use Rattle.definition.proofs.CheckLaws.{in-order-append, try-each, hasOne}
 use Rattle.definition.proofs.MisfitLaws.{fit-checks}
 use Rattle.definition.proofs.Tests.{and-true, or-false, not-both, never-false}
 use Rattle.definition.specs.04-Checks.{Checked, accepts, refuses, _>>_, Check, single, each, numberOf, check, try, inOrder, AllHold}
@@ -30,11 +30,6 @@ kept-or-not c xs ys zs false e = ap {B = List Check} (λ l. c ∷ l) e
 -- The checks that the requests are about, by number: of how a step fits, and of what it refines by.
 isRequested : ℕ → Bool
 isRequested n = eqb n 28 || eqb n 27 || eqb n 24 || eqb n 25 || eqb n 26 || eqb n 18
-
--- Has a check of the list such a number?
-hasOne : (ℕ → Bool) → List Check → Bool
-hasOne is [] = false
-hasOne is (c ∷ cs) = is (numberOf c) || hasOne is cs
 
 -- What a request says of two runs, the first with its checks and the second without: it passes to one run after another, and a check that is not left out ends alike. Only checks that a request is about are.
 record Request : Type 1 where
@@ -64,14 +59,13 @@ module _ (q : Request) where
 
   -- A list of which no check is left out, and one without any check that a request is about.
   alike-kept : (cs : List Check) → hasOne (q .leftOut) cs ≡ false → EndsAlike cs
-  unfolding hasOne without inOrder
+  unfolding without inOrder
   alike-kept [] e = q .over tt
   alike-kept (c ∷ cs) e =
       let h = or-false (q .leftOut (numberOf c)) (hasOne (q .leftOut) cs) e in
       rw (EndsAlike, h .0) (q .then (kept-try c (h .0)) (alike-kept cs (h .1)))
 
   none-out : (cs : List Check) → hasOne isRequested cs ≡ false → hasOne (q .leftOut) cs ≡ false
-  unfolding hasOne
   none-out [] e = refl
   none-out (c ∷ cs) e = let h = or-false (isRequested (numberOf c)) (hasOne isRequested cs) e in rw (q .requested (numberOf c) (h .0)) (none-out cs (h .1))
 
@@ -85,28 +79,28 @@ module _ (q : Request) where
 
   module _ (c : Case) (alike : StepAlike c) where
     alike-above : (k : ℕ) (s : State) → EndsAlike (aboveChecks c k s)
-    unfolding aboveChecks hasOne isRequested
+    unfolding aboveChecks isRequested
     alike-above k s = alike-both (single 19 k (notFresh c s k) ∷ []) (single 28 k (noTautology c (restsIn s) k) ∷ []) (alike-none (single 19 k (notFresh c s k) ∷ []) refl) (alike .refines k s)
 
     alike-step : (k : ℕ) (s : State) → EndsAlike (stepChecks c k s)
-    unfolding stepChecks shapeChecks citationChecks useChecks hasOne isRequested
+    unfolding stepChecks shapeChecks citationChecks useChecks isRequested
     alike-step k s =
         alike-both (shapeChecks c k s) (useChecks c k s) (alike-none (shapeChecks c k s) refl)
         (alike-both (single 17 k _ ∷ []) _ (alike-none (single 17 k _ ∷ []) refl) (alike-both (fitChecks c k) (aboveChecks c k s) (alike .fits k) (alike-above k s)))
 
     alike-steps : (left k : ℕ) (s : State) → EndsAlike (checksOfSteps c left k s)
-    unfolding checksOfSteps hasOne
+    unfolding checksOfSteps
     alike-steps zero k s = alike-none [] refl
     alike-steps (suc left) k s = alike-both (stepChecks c k s) _ (alike-step k s) (alike-steps left (k + 1) (next c k s))
 
     alike-owed : (o : Option Formula) (room : ℕ) → EndsAlike (checksIfOwed o c room)
-    unfolding checksIfOwed proofChecks endChecks closingChecks roomChecks hasOne isRequested
+    unfolding checksIfOwed proofChecks endChecks closingChecks roomChecks isRequested
     alike-owed none room = alike-none [] refl
     alike-owed (some f) room = alike-both (checksOfSteps c (c .steps) 0 startState) _ (alike-steps (c .steps) 0 startState) (alike-none (endChecks c (finalState c) room) refl)
 
   module _ (s : List ℕ) (alike : StepAlike (caseOf s)) where
     alike-all : (room : ℕ) → EndsAlike (allChecks s room)
-    unfolding allChecks caseChecks owingChecks admissionChecks checksToLog layoutChecks bookChecks logChecks recordChecks hasOne isRequested
+    unfolding allChecks caseChecks owingChecks admissionChecks checksToLog layoutChecks bookChecks logChecks recordChecks isRequested
     alike-all room =
         alike-both (admissionChecks s) (caseChecks (caseOf s) room) (alike-none (admissionChecks s) refl)
         (alike-both (owingChecks (caseOf s)) (checksIfOwed (owes (caseOf s)) (caseOf s) room) (alike-none (owingChecks (caseOf s)) refl) (alike-owed (caseOf s) alike (owes (caseOf s)) room))
@@ -176,13 +170,13 @@ fit-alike k false false true true h = refl
 fit-alike k false false false true h = refl
 
 alike-fit : (c : Case) (k : ℕ) → EndsAlike request-1 (fitChecks c k)
-unfolding fitChecks misfitChecks request-1 hasOne isMisfitNumber
+unfolding fitChecks misfitChecks request-1 isMisfitNumber
 alike-fit c k =
     alike-both request-1 (single 27 (c .step k .stray) (strayVariable c k) ∷ []) (misfitChecks c k) (alike-kept request-1 (single 27 _ _ ∷ []) refl)
     (fit-alike k (wrongKind c k) (wrongParty c k) (wrongInstance c k) (misfit c k) (λ e. let w = fit-checks c k .1 e .1 in (w .0, (w .1 .0, (w .1 .1 .0, tt)))))
 
 alike-1 : (c : Case) → StepAlike request-1 c
-unfolding request-1 hasOne isMisfitNumber
+unfolding request-1 isMisfitNumber
 alike-1 c = record { fits = alike-fit c; refines = λ k s. alike-kept request-1 (single 28 k _ ∷ []) refl }
 
 reported : (x : Checked Finding) (room : List ℕ) → report (before x) room ≡ asBefore (report x room)
@@ -256,7 +250,7 @@ module _ (c : Case) where
         rw (EndsAlike, e, stray-misfits e, owner-instance (stray-owner e)) (inr (record { row = c .step k .stray; number = w .0; step = k; with = refl; without = w .1; misfits = w .2; owner = stray-owner e; told = refl }))
 
   alike-2 : StepAlike request-2 c
-  unfolding request-2 hasOne isStrayNumber
+  unfolding request-2 isStrayNumber
   alike-2 = record { fits = λ k. stray-fit k (strayVariable c k) refl; refines = λ k s. alike-kept request-2 (single 28 k _ ∷ []) refl }
 
 pub strays-alone : StraysAlone
@@ -294,7 +288,7 @@ refining k false = inl refl
 refining k true = inr (k, refl)
 
 alike-3 : (c : Case) → StepAlike request-3 c
-unfolding request-3 isRefiningNumber hasOne fitChecks misfitChecks
+unfolding request-3 isRefiningNumber fitChecks misfitChecks
 alike-3 c = record { fits = λ k. alike-kept request-3 (fitChecks c k) refl; refines = λ k s. refining k (noTautology c (restsIn s) k) }
 
 pub refinings-alone : RefiningsAlone

@@ -9,7 +9,7 @@ use lib.Dec.{eqb}
 use borrow.Author.Tests.{eqb-true, eq-eqb}
 use Rattle.definition.proofs.RangeLaws.{any-false, any-none, each-at}
 use Rattle.definition.proofs.StateMarks.{restsAt, openAt, citesAt, rests-at}
-use Rattle.definition.proofs.Tests.{and-true, or-is, or-false, or-intro-left, or-intro-right, or-true, not-both, never-true}
+use Rattle.definition.proofs.Tests.{and-true, equals-is, or-is₃, or-false, or-intro-left, or-intro-right, or-true, not-both, never-true}
 use Rattle.definition.specs.02-Ranges.{any}
 use Rattle.definition.specs.03-Lists.{Among}
 use Rattle.definition.specs.17-Case.{Case}
@@ -18,15 +18,12 @@ use Rattle.definition.specs.22-Steps.{Labels, Rests, restsIn, ruleOf, pr
 use Rattle.definition.specs.42-Account.{HandedOn, Citing, Tautology, OfFirst, TreesAllowed}
 
 -- the rules that cite, by number
-evidence-numbers : (n : ℕ) → n < 16 → isEvidence (ruleAt n .names) ≡ eqb n 1 || (eqb n 2 || eqb n 12)
+evidence-numbers : (n : ℕ) → n < 16 → isEvidence (ruleAt n .names) ≡ eqb n 1 || eqb n 2 || eqb n 12
 unfolding isEvidence ruleAt rules rule
-evidence-numbers n lt = each-at (λ m. isEvidence (ruleAt m .names) ≡ eqb m 1 || (eqb m 2 || eqb m 12)) 16 0 (refl, (refl, (refl, (refl, (refl, (refl, (refl, (refl, (refl, (refl, (refl, (refl, (refl, (refl, (refl, (refl, tt)))))))))))))))) n (omega arith) (omega arith)
-
-is-number : (n m : ℕ) → (eqb n m ≡ true) ↔ (n ≡ m)
-is-number n m = (eqb-true n m, eq-eqb n m)
+evidence-numbers n lt = each-at (λ m. isEvidence (ruleAt m .names) ≡ eqb m 1 || eqb m 2 || eqb m 12) 16 0 (refl, (refl, (refl, (refl, (refl, (refl, (refl, (refl, (refl, (refl, (refl, (refl, (refl, (refl, (refl, (refl, tt)))))))))))))))) n (omega arith) (omega arith)
 
 pub citing-is : (n : ℕ) → n < 16 → (isEvidence (ruleAt n .names) ≡ true) ↔ Citing n
-citing-is n lt = rw (evidence-numbers n lt) (or-is (is-number n 1) (or-is (is-number n 2) (is-number n 12)))
+citing-is n lt = rw (evidence-numbers n lt) (or-is₃ (equals-is n 1) (equals-is n 2) (equals-is n 12))
 
 -- one of the steps cites
 some-cites : (cites : ℕ → Bool) (ps : List ℕ) → someCites cites ps ≡ true → (p : ℕ) × Among p ps × (cites p ≡ true)

@@ -4,8 +4,8 @@ use mathlib.Core.Path.{_≡_, refl, sym, _∙_}
 use mathlib.Core.Bool.{Bool, true, false, not, _&&_, _||_, true≢false, false≢true, or-assoc}
 use native.Mathlib.Nat.{eq-or-lt-of-le}
 use native.Mathlib.Omega.{arith}
-use lib.Dec.{ltb}
-use borrow.Author.Tests.{not-true, not-false, ltb-true, ltb-false}
+use lib.Dec.{eqb, ltb}
+use borrow.Author.Tests.{not-true, not-false, ltb-true, ltb-false, eqb-true, eq-eqb}
 use mathlib.Core.Logic.{_↔_, _⊎_, inl, inr, ⊎-elim}
 
 pub and-true : (a b : Bool) → a && b ≡ true → (a ≡ true) × (b ≡ true)
@@ -86,6 +86,9 @@ and-is {a} {b} h k = (
   λ e. let p = and-true a b e in (h .0 (p .0), k .0 (p .1)),
   λ p. and-intro (h .1 (p .0)) (k .1 (p .1)),
 )
+
+pub equals-is : (n m : ℕ) → (eqb n m ≡ true) ↔ (n ≡ m)
+equals-is n m = (eqb-true n m, eq-eqb n m)
 
 -- Two tests that say whether P give one answer.
 pub one-answer : (a : Bool) {b : Bool} {P : Type 0} → ((a ≡ true) ↔ P) → ((b ≡ true) ↔ P) → a ≡ b

@@ -31,7 +31,7 @@ pub record IsAbove (s : List ℕ) (from len : ℕ) (left : List ℕ) (r : Above)
   pub rests : restsMeant (r .rests) ≡ together (restsOf left) (listed (premiseStep s) len from)
   pub shared : r .shared ≡ share (caseOf s) (opensOf left) (listed (premiseStep s) len from)
 
--- The same of the premises of step k, in a state in which the steps rest on what the table has, and the obligations discharged are those of the other.
+-- The same of the premises of step k, in a state in which the steps rest on what the first table has, and the obligations of the second are discharged.
 pub record UsesIn (c : Case) (k : ℕ) (left : List ℕ) (discharged : List Bool) (above : Above) (s : State) : Type 0 where
   pub spent : s .discharged ≡ marks discharged
   pub table : restsIn s ≡ restsOf left

@@ -7,7 +7,6 @@ use tables::Resting;
 use tables::rests_at;
 ghost use mathlib.Core.Path.{_≡_};
 ghost use Prim.Native.Nat.{_+_, _<_};
-ghost use lib.ListN.{length};
 ghost use Rattle.definition.specs.11-Layout.{premise-part, count};
 ghost use Rattle.definition.specs.15-Records.{premiseStep};
 ghost use Rattle.definition.specs.17-Case.{caseOf};
@@ -28,7 +27,7 @@ fn premise_rests(file: &[u8], from: usize, n: usize, left: &[u64; 2048]) -> Rest
 
 // Check 28 of step `k`.
 pub fn no_tautology(file: &[u8], k: usize, step: Step, left: &[u64; 2048]) -> bool
-    requires { ⌜ Parted (now file) × (length (now left) ≡ 2048) ⌝ }
+    requires { ⌜ Parted (now file) ⌝ }
     requires { ⌜ ShapedStep (now file) k × StepFields (now file) k step ⌝ }
     ensures { λ r. ⌜ r ≡ noTautology (caseOf (now (file .entry))) (restsOf (now (left .entry))) k ⌝ }
 {

@@ -105,7 +105,7 @@ fn check_above(
     above: OpenSet,
     left: &[u64; 2048],
 ) -> Failure
-    requires { ⌜ Lent (now file) (now book) × (length (now left) ≡ 2048) ⌝ }
+    requires { ⌜ Lent (now file) (now book) ⌝ }
     requires { ⌜ ShapedStep (now file) k × StepFields (now file) k step ⌝ }
     ensures { λ r. ⌜ ((s : State) → restsIn s ≡ restsOf (now (left .entry)) → labelsOf (above .bits) ≡ joined (opensIn s) (premisesOf (caseOf (now (file .entry))) k) → failureMeant r ≡ inOrder (aboveChecks (caseOf (now (file .entry))) k s)) ⌝ }
 {
@@ -131,7 +131,7 @@ fn check_uses(
     left: &[u64; 2048],
     discharged: &[bool; 64],
 ) -> Failure
-    requires { ⌜ CaseLent (now file) (now book) (now views) × (length (now left) ≡ 2048) × (length (now discharged) ≡ 64) ⌝ }
+    requires { ⌜ CaseLent (now file) (now book) (now views) × (length (now discharged) ≡ 64) ⌝ }
     requires { ⌜ ShapedStep (now file) k × StepFields (now file) k step ⌝ }
     requires { ⌜ (shapeMeant shape ≡ shapeOf (ruleOf (caseOf (now file)) k)) × (labelsOf (each_use .bits) ≡ eachUseLabels (now file)) ⌝ }
     ensures { λ r. ⌜ ((s : State) → UsesIn (caseOf (now (file .entry))) k (now (left .entry)) (now (discharged .entry)) above s → failureMeant r ≡ inOrder (useChecks (caseOf (now (file .entry))) k s)) ⌝ }

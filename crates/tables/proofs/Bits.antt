@@ -70,9 +70,9 @@ one-label (suc k) (suc l) =
     rw (pow-suc 2 k, pow-suc 2 l, mul-div-mul-right {m = 2} (2 ^ k) (2 ^ l) (omega arith))
     (one-label k l ∙ ap isEq (sym (compare·suc-suc l k)))
 
--- `1 << k`, cut at 32 bits, is the power.
-pub shifted-one : (k : ℕ) → k < 32 → 1 * 2 ^ k % 4294967296 ≡ 2 ^ k
-shifted-one k h = shl-exact {a = 1} 1 k 32 (omega arith) (omega arith) ∙ one-mul (2 ^ k)
+-- `1 << k`, cut at w bits, is the power.
+pub shifted-one : (w k : ℕ) → k < w → 1 * 2 ^ k % 2 ^ w ≡ 2 ^ k
+shifted-one w k h = shl-exact {a = 1} 1 k w (omega arith) (omega arith) ∙ one-mul (2 ^ k)
 
 -- The sets that the operations give.
 pub labels-both : (a b : ℕ) → labelsOf (bitOr a b) ≡ (λ l. labelsOf a l || labelsOf b l)

@@ -34,17 +34,17 @@ not-fresh-requires : tie.Need-not-fresh-requires
 not-fresh-requires c κs = search needs
 
 cast-t8 : tie.Need-cast-t8
-cast-t8 c = let pre = start (c .before) .pre in omega (arith, place-few (pre .0 .0) (pre .1 .0) (pre .1 .1))
+cast-t8 c = let pre = start (c .before) .pre in omega (arith, place-few (pre .0) (pre .1 .0) (pre .1 .1))
 
 returns : tie.Need-returns
 unfolding failureMeant aboveChecks
 returns c s table above = sym (stops _ _ 19 _ (refl, refl, sym (stale (c .before) s above) ∙ c .if1 .taken))
 
 no-tautology-requires : tie.Need-no-tautology-requires
-no-tautology-requires c κs = let pre = start (c .before) .pre in ((parted (pre .0 .0), pre .0 .1), pre .1)
+no-tautology-requires c κs = let pre = start (c .before) .pre in (parted (pre .0), pre .1)
 
 cast-t10 : tie.Need-cast-t10
-cast-t10 c = let pre = start (c .before .before .before) .pre in omega (arith, place-few (pre .0 .0) (pre .1 .0) (pre .1 .1))
+cast-t10 c = let pre = start (c .before .before .before) .pre in omega (arith, place-few (pre .0) (pre .1 .0) (pre .1 .1))
 
 returns-2 : tie.Need-returns-2
 unfolding failureMeant aboveChecks

@@ -104,7 +104,7 @@ check-uses-requires c κs =
     let pre = st .pre in
     let is = pre .1 .1 .0 .0 in
     let stands = shaped-step _ _ _ (st .args .discharged .now) _ _ _ _ (fine t) (is .from) (is .len) (t .take-premises .ensures) (e .if2 .left) _ (cites cited) (told .enum-told .given .1) (pre .1 .0 .0) (pre .1 .0 .1) in
-    ((pre .0 .0, t .take-premises .ensures .long, pre .1 .1 .1 .1), ((stands, is), (pre .1 .1 .0 .1, pre .0 .1)))
+    ((pre .0 .0, pre .1 .1 .1 .1), ((stands, is), (pre .1 .1 .0 .1, pre .0 .1)))
 
 returns-3 : tie.Need-returns-3
 returns-3 c =

@@ -49,7 +49,7 @@ used-twice-requires c κs =
     let pre = st .pre in
     let s = st .args .file .now in
     let there = entries-there s (parted (pre .0 .0 .lent)) _ _ (pre .1 .0 .0 .cites) in
-    ((parted (pre .0 .0 .lent), pre .0 .2), (rw (pre .1 .1 .0, pre .1 .0 .1 .argument) there, pre .1 .1 .1))
+    ((parted (pre .0 .0 .lent), pre .0 .1), (rw (pre .1 .1 .0, pre .1 .0 .1 .argument) there, pre .1 .1 .1))
 
 cast-t16 : tie.Need-cast-t16
 cast-t16 c = let pre = start (c .before) .pre in omega (arith, place-few (pre .0 .0 .lent) (pre .1 .0 .0) (pre .1 .0 .1))

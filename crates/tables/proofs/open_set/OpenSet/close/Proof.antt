@@ -10,7 +10,7 @@ shl-t3 c = search needs
 returns : tie.Need-returns
 returns c =
     let a = c .before .before .args in
-    rw (shifted-one (a .label) (c .before .before .pre)) (labels-without (a .self .bits) (a .label))
+    rw (shifted-one 32 (a .label) (c .before .before .pre)) (labels-without (a .self .bits) (a .label))
 
 pub close-spec : {M : Type 1} → statement M
 close-spec = tie.close (tie.spec shl-t3 returns)
