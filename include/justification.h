@@ -327,6 +327,50 @@ struct justification_admission {
 struct justification_admission justification_admit(const uint8_t *file,
                                                    size_t file_bytes);
 
+/*
+** The sizes of formulas.
+**
+** The formulas of a case are its book, rows of eight bytes: part 0 of the file.
+** Its offset is the 16-bit number, low byte first, at byte 4 of the file, its
+** length in bytes the one at byte 6. The size of a formula is the number of
+** nodes of its tree: the formula written out, the formulas and actions that it
+** is made of counted each time they stand there, terms not counted. No formula
+** of a sound book has over 64.
+**
+** formula_book_sizes makes checks 3 and 4 on any bytes as a book, and fills the
+** column sizes, JUSTIFICATION_SIZES bytes: byte k is the size of formula k.
+**
+** number 0 and place 0: the book is sound, and all its formulas have their
+**     sizes, from 1 to 64.
+** number 3: formula place is not well made. The formulas before it have their
+**     sizes.
+** number 4: formula place stands there a second time. All have their sizes.
+** number 2 and place 0: the bytes are no whole number of rows, or there are
+**     over 1,024. None has a size.
+**
+** Every other byte of the column stays as it was, and no answer depends on what
+** was there. In a file that passes 1 and 2 the first fault of the book is the
+** one that justification_admit tells.
+**
+**     uint8_t sizes[JUSTIFICATION_SIZES];
+**     const uint8_t *book = file + (file[4] | file[5] << 8);
+**     size_t book_bytes = (size_t)(file[6] | file[7] << 8);
+**     struct justification_admission a =
+**         formula_book_sizes(book, book_bytes, sizes);
+**
+** (That is for a file which justification_admit has let pass: then its book is
+** there.) No log row shows in the sizes: the book is all that is read.
+**
+** What is said above of the file, the heap, the stack, threads and the caller
+** holds of the book too; sizes is valid for JUSTIFICATION_SIZES bytes, and does
+** not overlap the book.
+*/
+#define JUSTIFICATION_SIZES 1024
+
+struct justification_admission
+formula_book_sizes(const uint8_t *book, size_t book_bytes,
+                   uint8_t sizes[JUSTIFICATION_SIZES]);
+
 #ifdef __cplusplus
 }
 #endif

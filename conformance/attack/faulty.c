@@ -1,6 +1,7 @@
 /*
 ** Stands in for the library, to see that guard.c catches what it is for. It
-** refuses every file by 1, and FAULT says what it does wrong: 0 for nothing.
+** refuses every file by 1, admits every book as if it had no formula, and FAULT
+** says what it does wrong: 0 for nothing.
 */
 #include "justification.h"
 
@@ -45,5 +46,36 @@ struct justification_admission justification_admit(const uint8_t *file, size_t f
     struct justification_admission admission = {JUSTIFICATION_FILE_LENGTH, 0};
     (void)file;
     (void)file_bytes;
+    return admission;
+}
+
+struct justification_admission formula_book_sizes(const uint8_t *book, size_t book_bytes,
+                                                  uint8_t sizes[JUSTIFICATION_SIZES])
+{
+    struct justification_admission admission = {0, 0};
+    volatile uint8_t *bytes = (volatile uint8_t *)(uintptr_t)book;
+    volatile uint8_t *column = sizes;
+    switch (FAULT) {
+    case 8: /* reads behind the book */
+        (void)bytes[book_bytes];
+        break;
+    case 9: /* writes to the book */
+        bytes[0] = 0;
+        break;
+    case 10: /* writes behind the column */
+        column[JUSTIFICATION_SIZES] = 0;
+        break;
+    case 11: /* writes before the column */
+        *(column - 1) = 0;
+        break;
+    case 12: /* changes a byte that is the size of no formula */
+        column[JUSTIFICATION_SIZES - 1] = 0;
+        break;
+    case 13: /* gives another place */
+        admission.place = 1;
+        break;
+    default:
+        break;
+    }
     return admission;
 }

@@ -1,9 +1,10 @@
 /*
-** Checks case files between pages that no program may touch. A read beyond the
-** file, a write to it, or an access beyond the room stops the program.
+** Checks case files between pages that no program may touch, and sizes their
+** formulas. A read beyond the file or the book, a write to it, or an access
+** beyond the room or the column stops the program.
 **
 ** Standard input has records, as `src/pack.rs` writes them, each with the
-** verdict and the list that the separate checker gives.
+** verdict, the list and the sizes that the separate checker gives.
 */
 #define _DEFAULT_SOURCE
 
@@ -19,6 +20,7 @@
 #define FILE_AREA 65536
 #define ROOM_AREA 4096
 #define ROOM_ENTRIES (ROOM_AREA / 2)
+#define COLUMN_AREA 4096
 
 /* Guard pages are larger than all a check may read or write. */
 #define GUARD 65536
@@ -29,9 +31,15 @@ static size_t content_bytes;
 static struct justification_verdict expected;
 static uint16_t listed[JUSTIFICATION_ROOM];
 static size_t listed_count;
+static uint8_t book[FILE_AREA];
+static size_t book_bytes;
+static struct justification_admission expected_book;
+static uint8_t sizes_due[JUSTIFICATION_SIZES];
+static size_t sizes_count;
 
 static uint8_t *file_area;
 static uint16_t *room_area;
+static uint8_t *column_area;
 static uint8_t *no_access;
 static unsigned long files, calls;
 
@@ -43,7 +51,7 @@ static void fail(const char *what)
 
 static void on_fault(int signal_number)
 {
-    static const char text[] = "a read or write beyond the file or the room\n";
+    static const char text[] = "a read or write beyond what was lent\n";
     (void)signal_number;
     if (write(2, text, sizeof text - 1) < 0) {
         _exit(3);
@@ -85,14 +93,14 @@ static void *guarded(size_t bytes)
     return area + GUARD;
 }
 
-/* The file, at the end of its area or at the start, for reading only. */
-static const uint8_t *place_file(int at_end)
+/* Bytes at the end of the file's area or at the start, for reading only. */
+static const uint8_t *place(const uint8_t *bytes, size_t count, int at_end)
 {
-    uint8_t *file = file_area + (at_end ? FILE_AREA - content_bytes : 0);
+    uint8_t *placed = file_area + (at_end ? FILE_AREA - count : 0);
     protect(file_area, FILE_AREA, PROT_READ | PROT_WRITE);
-    memcpy(file, content, content_bytes);
+    memcpy(placed, bytes, count);
     protect(file_area, FILE_AREA, PROT_READ);
-    return file;
+    return placed;
 }
 
 static int same(struct justification_verdict a, struct justification_verdict b)
@@ -161,6 +169,37 @@ static void check_rooms(const uint8_t *file, int at_end)
     }
 }
 
+static void check_book(const uint8_t *placed, uint8_t *sizes)
+{
+    struct justification_admission found = formula_book_sizes(placed, book_bytes, sizes);
+    calls++;
+    if (found.number != expected_book.number || found.place != expected_book.place) {
+        fail("another answer to the book");
+    }
+}
+
+/* The column's area has to be as before but for the sizes due. */
+static void check_sizes(int at_end)
+{
+    const uint8_t *placed = place(book, book_bytes, at_end);
+    uint8_t *sizes = column_area + (at_end ? COLUMN_AREA - JUSTIFICATION_SIZES : 0);
+    uint8_t pattern = at_end ? 0xA5 : 0x5A;
+    size_t first = (size_t)(sizes - column_area);
+    size_t i;
+    memset(column_area, pattern, COLUMN_AREA);
+    check_book(placed, sizes);
+    for (i = 0; i < COLUMN_AREA; i++) {
+        int sized = first <= i && i < first + sizes_count;
+        if (column_area[i] != (sized ? sizes_due[i - first] : pattern)) {
+            fail("another column than the separate checker's");
+        }
+    }
+    /* Bytes that are no rows come with a column that nobody may touch. */
+    if (expected_book.number == JUSTIFICATION_FAULTY_PART) {
+        check_book(placed, no_access);
+    }
+}
+
 static int read_all(void *into, size_t bytes)
 {
     return fread(into, 1, bytes, stdin) == bytes;
@@ -176,16 +215,9 @@ static uint16_t read_number(void)
     return (uint16_t)(bytes[0] | bytes[1] << 8);
 }
 
-/* Reads a record, if there is one more. */
-static int read_record(void)
+static void read_file_record(void)
 {
     size_t i;
-    int next = getchar();
-    if (next == EOF) {
-        return 0;
-    }
-    ungetc(next, stdin);
-    files++;
     content_bytes = read_number();
     expected.kind = read_number();
     expected.first = read_number();
@@ -200,6 +232,33 @@ static int read_record(void)
     if (!read_all(content, content_bytes)) {
         fail("a record that ends early");
     }
+}
+
+static void read_book_record(void)
+{
+    book_bytes = read_number();
+    expected_book.number = read_number();
+    expected_book.place = read_number();
+    sizes_count = read_number();
+    if (sizes_count > JUSTIFICATION_SIZES) {
+        fail("more sizes than any column has");
+    }
+    if (!read_all(sizes_due, sizes_count) || !read_all(book, book_bytes)) {
+        fail("a record that ends early");
+    }
+}
+
+/* Reads a record, if there is one more. */
+static int read_record(void)
+{
+    int next = getchar();
+    if (next == EOF) {
+        return 0;
+    }
+    ungetc(next, stdin);
+    files++;
+    read_file_record();
+    read_book_record();
     return 1;
 }
 
@@ -208,10 +267,13 @@ int main(void)
     catch_faults();
     file_area = guarded(FILE_AREA);
     room_area = guarded(ROOM_AREA);
+    column_area = guarded(COLUMN_AREA);
     no_access = (uint8_t *)guarded(ROOM_AREA) - GUARD;
     while (read_record()) {
-        check_rooms(place_file(1), 1);
-        check_rooms(place_file(0), 0);
+        check_rooms(place(content, content_bytes, 1), 1);
+        check_rooms(place(content, content_bytes, 0), 0);
+        check_sizes(1);
+        check_sizes(0);
     }
     printf("%lu files, %lu calls\n", files, calls);
     return 0;

@@ -6,6 +6,7 @@
 pub mod builder;
 pub mod cases;
 pub mod checker;
+pub mod columns;
 pub mod damages;
 pub mod desk;
 pub mod examples;

@@ -1,8 +1,9 @@
-//! Case files with what the separate checker says of them, as records for `attack/guard.c`, which
-//! shares nothing with the proved library's Rust side.
+//! Case files with what the separate checker says of them and of their books, as records for
+//! `attack/guard.c`, which shares nothing with the proved library's Rust side.
 
 use crate::cases::{examples_and_vectors, ROOM};
-use crate::checker::{check, Verdict};
+use crate::checker::{check, size_column, Verdict};
+use crate::columns::{answer, book_of};
 use crate::damages::damaged;
 use crate::examples;
 use crate::justifications::{passing, slipping};
@@ -27,8 +28,13 @@ pub fn random_file(random: &mut Random) -> Vec<u8> {
     }
 }
 
-/// A record: the file's length, the verdict in three numbers, the entries listed, the file.
+/// A record: the file's, and its book's.
 pub fn record(file: &[u8]) -> Vec<u8> {
+    [file_record(file), book_record(book_of(file))].concat()
+}
+
+/// The file's length, the verdict in three numbers, the entries listed, the file.
+fn file_record(file: &[u8]) -> Vec<u8> {
     let mut room = [0; ROOM];
     let (numbers, listed) = match check(file, &mut room) {
         Verdict::Passed { obligations, rows } => ([0, obligations, rows], obligations + rows),
@@ -39,4 +45,15 @@ pub fn record(file: &[u8]) -> Vec<u8> {
     let head = [length].into_iter().chain(numbers);
     let words = head.chain(room[..listed as usize].iter().copied());
     words.flat_map(u16::to_le_bytes).chain(file.iter().copied()).collect()
+}
+
+/// The book's length, the answer in two numbers, how many sizes are told, the sizes, the book. No
+/// size is 0, so the bytes that stay 0 are not told.
+fn book_record(book: &[u8]) -> Vec<u8> {
+    let (admitted, column) = answer(size_column, book, [0; 1_024]);
+    let (number, place) =
+        admitted.map_or_else(|refusal| (refusal.number, refusal.place), |()| (0, 0));
+    let sizes: Vec<u8> = column.into_iter().take_while(|size| *size > 0).collect();
+    let words = [book.len() as u16, number, place, sizes.len() as u16];
+    words.into_iter().flat_map(u16::to_le_bytes).chain(sizes).chain(book.iter().copied()).collect()
 }

@@ -18,6 +18,7 @@ struct RunNumbers {
 
 extern "C" {
     fn formula_book_admit(book: *const u8, length: usize) -> RunNumbers;
+    fn formula_book_sizes(book: *const u8, length: usize, sizes: *mut u8) -> RunNumbers;
     fn justification_check(
         file: *const u8,
         length: usize,
@@ -39,6 +40,13 @@ fn answer(numbers: RunNumbers) -> Result<(), Refusal> {
 pub fn admit_book(book: &[u8]) -> Result<(), Refusal> {
     // The library reads `length` bytes from the pointer and writes nothing.
     answer(unsafe { formula_book_admit(book.as_ptr(), book.len()) })
+}
+
+/// The same, and the column of sizes after it.
+pub fn size_column(book: &[u8], column: &mut [u8; 1_024]) -> Result<(), Refusal> {
+    // The library reads `length` bytes from the one pointer, and reads and writes the 1,024 bytes
+    // behind the other; a mutable column overlaps nothing.
+    answer(unsafe { formula_book_sizes(book.as_ptr(), book.len(), column.as_mut_ptr()) })
 }
 
 /// The verdict on any bytes as a case file, and what a pass writes to the room.

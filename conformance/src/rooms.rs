@@ -1,7 +1,7 @@
 //! A check in a room whose content is known.
 
 #[cfg(feature = "proved")]
-use crate::{cases::ROOM, checker, proved};
+use crate::{cases::ROOM, checker, columns, proved};
 
 use crate::checker::Verdict;
 use crate::desk::words::number_of;
@@ -32,12 +32,14 @@ pub fn agreed(file: &[u8], entries: usize) -> (Verdict, Vec<u16>) {
 }
 
 /// The same in a long room, one of no entries, one that is one too short and one that is just
-/// long enough; and the admission. The verdict is the one in the long room.
+/// long enough; the admission; and the sizes of the file's formulas. The verdict is the one in the
+/// long room.
 #[cfg(feature = "proved")]
 pub fn agreed_in_all_rooms(file: &[u8]) -> Verdict {
     let (verdict, _) = agreed(file, ROOM);
     agreed(file, 0);
     assert_eq!(proved::admit(file), checker::admit(file).map(|_| ()), "{file:?}");
+    _ = columns::agreed(columns::book_of(file));
     if let Verdict::Passed { obligations, rows } = verdict {
         let needed = obligations as usize + rows as usize;
         assert_eq!(agreed(file, needed).0, verdict);

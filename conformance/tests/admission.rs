@@ -1,8 +1,10 @@
-//! Checks 1 to 11 at their edges.
+//! Checks 1 to 11 at their edges, and the sizes of formulas.
 
 use conformance::builder::*;
 use conformance::cases::grant;
-use conformance::checker::{admit, admit_book, check, Refusal, Verdict, ABSENT, MOST_BYTES};
+use conformance::checker::{admit, admit_book, check, size_column};
+use conformance::checker::{Refusal, Verdict, ABSENT, MOST_BYTES};
+use conformance::columns;
 
 const NO: u16 = ABSENT;
 
@@ -18,13 +20,18 @@ fn answer<T>(result: Result<T, Refusal>) -> Option<(u16, u16)> {
     result.err().map(|refusal| (refusal.number, refusal.place))
 }
 
-/// What a book of these rows is refused with, if it is.
-fn book(rows: &[Row]) -> Option<(u16, u16)> {
+/// The bytes of a book of these rows.
+fn book_bytes(rows: &[Row]) -> Vec<u8> {
     let mut case = CaseFile::new(0);
     for &(kind, code, x, y, z) in rows {
         case.formulas.push(FormulaRow { kind, code, fields: [x, y, z] });
     }
-    answer(admit_book(&case.formula_part()))
+    case.formula_part()
+}
+
+/// What a book of these rows is refused with, if it is.
+fn book(rows: &[Row]) -> Option<(u16, u16)> {
+    answer(admit_book(&book_bytes(rows)))
 }
 
 /// Whether this row stands well after the three above.
@@ -152,6 +159,103 @@ fn sorts_of_bound_variables() {
 fn bad_rows_come_before_repeats() {
     assert_eq!(book(&[P, P]), Some((4, 1)));
     assert_eq!(book(&[P, P, (11, 0, NO, NO, NO)]), Some((3, 2)));
+}
+
+/// Holds a book to the answer due and its column to these sizes, with every byte behind them as it
+/// was lent.
+fn assert_column(part: &[u8], refused: Option<(u16, u16)>, sizes: &[u8]) {
+    let mut due = columns::lent();
+    due[..sizes.len()].copy_from_slice(sizes);
+    let (found, column) = columns::answer(size_column, part, columns::lent());
+    assert_eq!((answer(found), column), (refused, due));
+    assert_eq!(answer(admit_book(part)), refused);
+}
+
+/// Terms are not counted, the action in a duty is, and a row is counted each time it stands in the
+/// tree.
+#[test]
+fn sizes_of_all_kinds() {
+    let sized: [(Row, u8); 19] = [
+        ((0, 1, NO, NO, NO), 1),
+        ((0, 7, 1, 16_384, 2), 1),
+        ((1, 0, 0, 16_384, NO), 1),
+        ((9, 0, 0, 16_384, NO), 1),
+        ((10, 1, 0, NO, NO), 1),
+        ((10, 7, 0, 16_384, 2), 1),
+        ((2, 0, 0, 1, 2), 2),
+        ((3, 0, 2, 6, NO), 4),
+        ((3, 0, 1, 1, NO), 3),
+        ((4, 0, 7, NO, NO), 5),
+        ((4, 1, 8, NO, NO), 4),
+        ((5, 0, 7, 6, NO), 7),
+        ((6, 0, 3, 0, NO), 3),
+        ((7, 0, 5, 11, NO), 9),
+        ((8, 0, 0, 11, 2), 8),
+        ((6, 0, 14, 6, NO), 11),
+        ((7, 0, 14, 15, NO), 20),
+        ((8, 0, 0, 16, 0), 21),
+        ((7, 0, 17, 16, NO), 42),
+    ];
+    let (rows, sizes): (Vec<Row>, Vec<u8>) = sized.into_iter().unzip();
+    assert_column(&book_bytes(&rows), None, &sizes);
+}
+
+/// Rows of 64 nodes; then one of 65 or more, and a good row behind it that gets no size.
+#[test]
+fn sizes_up_to_64() {
+    let mut rows = vec![P];
+    rows.extend((0..5).map(|row| (3, 0, row, row, NO)));
+    rows.extend([(4, 0, 5, NO, NO), (2, 0, 0, 4, 0), (8, 0, 0, 4, 0), (6, 0, 8, 4, NO)]);
+    let sizes = [1, 3, 7, 15, 31, 63, 64, 32, 32, 64];
+    assert_column(&book_bytes(&rows), None, &sizes);
+    let of_65 = [
+        (2, 0, 0, 6, 0),
+        (3, 0, 7, 7, NO),
+        (4, 1, 9, NO, NO),
+        (5, 0, 5, 0, NO),
+        (6, 0, 8, 7, NO),
+        (7, 0, 8, 7, NO),
+        (8, 0, 0, 9, 0),
+    ];
+    let of_129 = (5, 0, 6, 9, NO);
+    for large in of_65.into_iter().chain([of_129]) {
+        let rows = [&rows[..], &[large, OWNS]].concat();
+        assert_column(&book_bytes(&rows), Some((3, 10)), &sizes);
+    }
+}
+
+/// Where 3 refuses, the rows below its place are sized; where 4 does, all are, and 3 comes first.
+#[test]
+fn sizes_of_refused_books() {
+    let bad = (11, 0, NO, NO, NO);
+    let both = (3, 0, 0, 1, NO);
+    let column = |rows: &[Row], refused, sizes: &[u8]| {
+        assert_column(&book_bytes(rows), Some(refused), sizes);
+    };
+    column(&[bad], (3, 0), &[]);
+    column(&[bad, P, OWNS], (3, 0), &[]);
+    column(&[P, OWNS, both, bad, ACTS, bad], (3, 3), &[1, 1, 3]);
+    column(&[P, P], (4, 1), &[1, 1]);
+    column(&[P, P, both, OWNS, both, (2, 0, 0, 4, 0)], (4, 1), &[1, 1, 3, 1, 3, 4]);
+    column(&[P, P, both, bad, OWNS], (3, 3), &[1, 1, 3]);
+    column(&[P, OWNS, bad, P, both], (3, 2), &[1, 1]);
+}
+
+/// No row, 1,024 rows and 1,025; and bytes that are no whole number of rows.
+#[test]
+fn sizes_by_the_length_of_the_book() {
+    assert_column(&[], None, &[]);
+    let mut rows: Vec<Row> = (0..1_023).map(|agent| (0, 0, agent, NO, NO)).collect();
+    rows.push((3, 0, 0, 1_022, NO));
+    let sizes = [vec![1; 1_023], vec![3]].concat();
+    let part = book_bytes(&rows);
+    assert_column(&part, None, &sizes);
+    assert_column(&part[..8], None, &sizes[..1]);
+    for length in [1, 7, 9, 15, 8_191] {
+        assert_column(&part[..length], Some((2, 0)), &[]);
+    }
+    rows.push(OWNS);
+    assert_column(&book_bytes(&rows), Some((2, 0)), &[]);
 }
 
 #[test]

@@ -1,5 +1,5 @@
 //! The proved library under attack, as far as no more than a C compiler is needed: guard pages
-//! around the file and the room, and eight threads at once. `attack/run` has the rest.
+//! around all that is lent, and eight threads at once. `attack/run` has the rest.
 
 use std::io::Write;
 use std::path::{Path, PathBuf};
@@ -9,10 +9,11 @@ use std::thread;
 
 use conformance::cases::ROOM;
 use conformance::checker;
+use conformance::columns::{self, book_of, lent, Sizer};
 use conformance::pack::{known_files, random_file, record};
 use conformance::proved;
 use conformance::random::Random;
-use conformance::rooms::answer;
+use conformance::rooms::{answer, Checker};
 
 fn here(path: &str) -> PathBuf {
     Path::new(env!("CARGO_MANIFEST_DIR")).join(path)
@@ -64,13 +65,13 @@ fn guard_pages() {
 /// (1); and no fault is none.
 #[test]
 fn guard_pages_catch_faults() {
-    for fault in 0..8 {
+    for fault in 0..14 {
         let define = format!("-DFAULT={fault}");
         let harness = harness(&format!("guard-{fault}"), &[&define, "faulty.c"]);
         let output = run(&harness, &[vec![0]]);
         let status = match fault {
             0 => 0,
-            5 | 7 => 1,
+            5 | 7 | 11 | 12 | 13 => 1,
             _ => 2,
         };
         assert_eq!(output.status.code(), Some(status), "fault {fault}");
@@ -84,13 +85,17 @@ fn eight_threads() {
     const THREADS: usize = 8;
     let files: Vec<Vec<u8>> =
         known_files().into_iter().chain(random_files(0xA076_1D64_78BD_642F, 2_000)).collect();
-    let expected: Vec<_> = files.iter().map(|file| answer(checker::check, file, ROOM)).collect();
+    let said = |check: Checker, sizer: Sizer, file: &[u8]| {
+        (answer(check, file, ROOM), columns::answer(sizer, book_of(file), lent()))
+    };
+    let separate = |file: &Vec<u8>| said(checker::check, checker::size_column, file);
+    let expected: Vec<_> = files.iter().map(separate).collect();
     let barrier = Barrier::new(THREADS);
     let differing = |thread: usize| {
         let check = |turn: usize| {
             let at = (turn + turn % 2 * thread * 37) % files.len();
             barrier.wait();
-            (answer(proved::check, &files[at], ROOM) != expected[at]).then_some(at)
+            (said(proved::check, proved::size_column, &files[at]) != expected[at]).then_some(at)
         };
         (0..files.len()).filter_map(check).collect::<Vec<usize>>()
     };

@@ -6,6 +6,7 @@ use std::thread;
 use conformance::builder::{data, CaseFile, FormulaRow, LogRow, Step};
 use conformance::cases::{examples_and_vectors, grant, twice, visit};
 use conformance::checker::{admit, ABSENT, HEADER_BYTES, PARTS};
+use conformance::columns::book_of;
 use conformance::desk::words::refusals;
 use conformance::proved;
 use conformance::random::{damage, fitting_book, Random};
@@ -249,8 +250,11 @@ fn stack_of_64_kib() {
     let file = full().to_bytes();
     let answer = thread::Builder::new()
         .stack_size(64 * 1024)
-        .spawn(move || proved::admit(&file))
+        .spawn(move || {
+            let mut sizes = [0; 1_024];
+            (proved::admit(&file), proved::size_column(book_of(&file), &mut sizes), sizes[1_023])
+        })
         .expect("a thread starts")
         .join();
-    assert_eq!(answer.expect("the thread ends"), Ok(()));
+    assert_eq!(answer.expect("the thread ends"), (Ok(()), Ok(()), 62));
 }

@@ -5,6 +5,7 @@ use std::collections::{BTreeMap, BTreeSet};
 use conformance::builder::{CaseFile, LogRow};
 use conformance::cases::grant;
 use conformance::checker::{admit, check, strike_unseen, Verdict, ABSENT};
+use conformance::columns::{agreed, book_of};
 use conformance::damages::damage_case;
 use conformance::desk::words::{number_of, refusals};
 use conformance::justifications::{citing_hidden_rows, others, passing, slipping};
@@ -64,14 +65,18 @@ fn is_left_out(answer: &Answer) -> bool {
 }
 
 /// The proved checker's one answer to both files and to both struck out, which is the separate
-/// checker's to the first struck out; none if either file is left out.
+/// checker's to the first struck out, and one column of sizes for all four; none if either file is
+/// left out.
 fn one_answer(pair: [&[u8]; 2], entries: usize) -> Option<Verdict> {
     let [first, second] = pair.map(|file| answer(proved::check, file, entries));
     if is_left_out(&first) || is_left_out(&second) {
         return None;
     }
     assert_eq!(first, second, "{pair:?}");
+    let sizes = agreed(book_of(pair[0]));
+    assert_eq!(agreed(book_of(pair[1])), sizes, "{pair:?}");
     for struck in pair.map(strike_unseen) {
+        assert_eq!(agreed(book_of(&struck)), sizes, "{struck:?}");
         assert_eq!(answer(proved::check, &struck, entries), first, "{struck:?}");
     }
     assert_eq!(answer(check, &strike_unseen(pair[0]), entries), first, "{pair:?}");

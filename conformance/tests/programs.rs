@@ -35,19 +35,23 @@ fn compile(arguments: &mut Command) {
     assert!(output.status.success(), "{}", String::from_utf8_lossy(&output.stderr));
 }
 
-/// The console, built under a name of the test's own.
-fn console(test: &str) -> PathBuf {
-    let built = scratch(&format!("console-{test}"));
+/// A C program over the library, built under a name of the test's own.
+fn linked(source: PathBuf, name: &str) -> PathBuf {
+    let built = scratch(name);
     compile(
         Command::new("cc")
             .args(["-std=c99", "-I"])
             .arg(project("include"))
-            .arg(project("console/console.c"))
+            .arg(source)
             .arg(project("target/staticlib/libjustification.a"))
             .arg("-o")
             .arg(&built),
     );
     built
+}
+
+fn console(test: &str) -> PathBuf {
+    linked(project("console/console.c"), &format!("console-{test}"))
 }
 
 fn run(program: &Path, input: &[u8]) -> Output {
@@ -79,6 +83,25 @@ fn manual_in_the_header() {
     });
     let listed = refusals().iter().map(|refusal| refusal.number);
     assert_eq!(told.collect::<Vec<u16>>(), listed.collect::<Vec<u16>>());
+}
+
+/// The lines of C by which the manual shows how to get the sizes of a case's formulas, on Grant.
+#[test]
+fn sizes_as_the_manual_shows() {
+    let header = fs::read_to_string(project("include/justification.h")).expect("it is there");
+    let lines = header.lines().skip_while(|line| !line.contains("uint8_t sizes[JUST"));
+    let shown = lines.map_while(|line| line.strip_prefix("**     ")).collect::<Vec<_>>().join("\n");
+    let program = format!(
+        "#include <stdio.h>\n#include \"justification.h\"\nint main(void) {{\n\
+         static uint8_t file[JUSTIFICATION_LARGEST_FILE];\n\
+         if (fread(file, 1, sizeof file, stdin) == 0) return 1;\n{shown}\n\
+         printf(\"%u %u:\", a.number, a.place);\n\
+         for (size_t k = 0; k < book_bytes / 8; k++) printf(\" %u\", sizes[k]);\nreturn 0;\n}}\n"
+    );
+    let source = scratch("sizes.c");
+    fs::write(&source, program).expect("the program is written");
+    let told = printed(run(&linked(source, "sizes"), &cases::grant().to_bytes()));
+    assert_eq!(told, "0 0: 1 1 1 2 2");
 }
 
 /// The words of the separate checker's side.

@@ -1,5 +1,6 @@
 //! How long the proved admission of a formula book takes, against a Rust `HashSet` that takes in
-//! the same rows, and against the separate checker. Ratios of medians, in one run.
+//! the same rows, and against the separate checker; and with a column of sizes that is lent, against
+//! that without. Ratios of medians, in one run.
 
 use std::collections::HashSet;
 use std::hint::black_box;
@@ -57,7 +58,9 @@ fn time<T>(mut run: impl FnMut() -> T) -> f64 {
 }
 
 fn main() {
-    println!("book       rows  proved us  HashSet us  ratio  separate us  ratio");
+    println!(
+        "book       rows  proved us  HashSet us  ratio  separate us  ratio  with sizes us  ratio"
+    );
     for (name, make) in [("ordinary", ordinary as fn(usize) -> Vec<Row>), ("walks", walks)] {
         for count in [128, 256, 512, 1_024] {
             let book = make(count);
@@ -66,10 +69,13 @@ fn main() {
             let proved = time(|| proved::admit_book(black_box(&bytes)));
             let set = time(|| black_box(&book).iter().copied().collect::<HashSet<Row>>());
             let separate = time(|| admit_book(black_box(&bytes)).is_ok());
+            let mut column = [0; 1_024];
+            let sizes = time(|| proved::size_column(black_box(&bytes), black_box(&mut column)));
             println!(
-                "{name:9} {count:5} {proved:10.1} {set:11.1} {:6.2} {separate:12.1} {:6.2}",
+                "{name:9} {count:5} {proved:10.1} {set:11.1} {:6.2} {separate:12.1} {:6.2} {sizes:14.1} {:6.2}",
                 proved / set,
-                proved / separate
+                proved / separate,
+                sizes / proved
             );
         }
     }

@@ -1,4 +1,4 @@
-//! Formulas written out as trees, and the book of them; checks 3 and 4.
+//! Formulas written out as trees, and the book of them; checks 3 and 4, and the column of sizes.
 
 use std::collections::BTreeSet;
 use std::rc::Rc;
@@ -154,21 +154,36 @@ fn is_data_variable(term: &Term) -> bool {
 /// refused as check 2 does.
 pub fn admit_book(part: &[u8]) -> Result<Vec<Tree>, Refusal> {
     ensure(is_sound_length(0, part.len()), 2, 0)?;
-    let book = check_3(part)?;
+    let mut book = Vec::new();
+    check_3(part, &mut book)?;
     check_4(part)?;
     Ok(book)
 }
 
-/// 3: bad formula row. A row is read only after all lower ones, so every child has at most 64
-/// nodes and counting never runs away.
-fn check_3(part: &[u8]) -> Result<Vec<Tree>, Refusal> {
+/// The answer of `admit_book`, and "a column of 1,024 bytes, byte k exactly the nodes of row k's
+/// tree". Where 3 refuses, the rows below its place have their sizes; where 4 does, all rows.
+/// Every other byte is as it was lent.
+pub fn size_column(part: &[u8], column: &mut [u8; 1_024]) -> Result<(), Refusal> {
+    ensure(is_sound_length(0, part.len()), 2, 0)?;
     let mut book = Vec::new();
+    let good_rows = check_3(part, &mut book);
+    for (byte, formula) in column.iter_mut().zip(&book) {
+        *byte = formula.nodes() as u8;
+    }
+    good_rows?;
+    check_4(part)
+}
+
+/// 3: bad formula row. A row is read only after all lower ones, so every child has at most 64
+/// nodes and counting never runs away. An empty book is lent, and gets the rows below the first bad
+/// one, or all rows.
+fn check_3(part: &[u8], book: &mut Vec<Tree>) -> Result<(), Refusal> {
     for (place, record) in part.chunks_exact(8).enumerate() {
-        let formula = read_formula(record, &book).ok_or(refusal(3, place))?;
+        let formula = read_formula(record, book).ok_or(refusal(3, place))?;
         ensure(formula.nodes() <= 64 && keeps_sort(&formula), 3, place)?;
         book.push(Rc::new(formula));
     }
-    Ok(book)
+    Ok(())
 }
 
 /// "Kind (one byte), code (one byte), fields X, Y, Z." "Children have lower row numbers and are

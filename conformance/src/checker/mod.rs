@@ -1,11 +1,11 @@
-//! The plain checker of one case: document 01 from top to bottom, with change requests 1 to 3 of
+//! The plain checker of one case: document 01 from top to bottom, with change requests 1 to 4 of
 //! document 02, one small function for each check and each rule. Here are the answers and the order
 //! of the checks. The checks themselves are in `case_file`, `terms`, `formulas`, `records`, `steps`,
 //! `misfits`, `rules` and `end`, to be read in this order; `striking` is apart from them.
 //!
 //! Formulas are read into trees and trees are compared, so nothing here rests on one meaning
-//! having one row number. Words in quotes are document 01's, and those about 24 to 28 document
-//! 02's.
+//! having one row number. Words in quotes are document 01's, and those about 24 to 28 and the
+//! column of sizes document 02's.
 
 mod case_file;
 mod end;
@@ -20,7 +20,7 @@ mod terms;
 use std::fmt;
 
 pub use case_file::{ABSENT, HEADER_BYTES, MOST_BYTES, PARTS};
-pub use formulas::admit_book;
+pub use formulas::{admit_book, size_column};
 pub use striking::strike_unseen;
 
 pub(crate) use case_file::{check_2, numbers};

@@ -1,6 +1,6 @@
 -- The theorems of demands 1 and 2 and of the requests on desk cases and examples of the tables of refusals, computed: their hypotheses can be met. Those of demand 3 are met in specs/55-HiddenRows, and the last one here.
 -- Assumes nothing.
-use Prim.Native.Nat.{ℕ, zero, suc, _<_}
+use Prim.Native.Nat.{ℕ, zero, suc, _≤_, _<_}
 use mathlib.Core.Bool.{true}
 use mathlib.Core.Logic.{inr, ⊎-elim}
 use mathlib.Core.Path.{_≡_, refl, sym, _∙_}
@@ -18,12 +18,15 @@ use Rattle.definition.proofs.RangeLaws.{all-true}
 use Rattle.definition.proofs.Refining.{same-steps, holds-without-log}
 use Rattle.definition.proofs.RefiningPlaces.{tells-refining}
 use Rattle.definition.proofs.RefusalTable.{refused-by-table}
+use Rattle.definition.proofs.SizeColumns.{tells-sizes, admitted-told, size-is-rows, sizes-fit}
 use Rattle.definition.proofs.StrayPlaces.{tells-stray, place-by-book}
 use Rattle.definition.proofs.StruckFile.{strikes-unseen}
 use Rattle.definition.specs.01-Words.{absent}
 use Rattle.definition.specs.02-Ranges.{all}
-use Rattle.definition.specs.04-Checks.{single, each, Holds, Fails, AllHold, here, later, accepts}
-use Rattle.definition.specs.13-Formulas.{Formula, implies, each-use, once}
+use Rattle.definition.specs.03-Lists.{joinAll}
+use Rattle.definition.specs.04-Checks.{single, each, Holds, Fails, AllHold, here, later, accepts, refuses}
+use Rattle.definition.specs.13-Formulas.{Formula, implies, each-use, once, nodes}
+use Rattle.definition.specs.14-Book.{bookRows, treeIn, book, sizeColumn, rowsOf}
 use Rattle.definition.specs.15-Records.{stepFormula}
 use Rattle.definition.specs.17-Case.{caseOf}
 use Rattle.definition.specs.18-Admission.{Parted, admissionChecks, admission}
@@ -32,12 +35,13 @@ use Rattle.definition.specs.22-Steps.{usedIn, premisesOf, misshapen, bad
 use Rattle.definition.specs.31-Outcome.{lastStep, unusedStep, openLabel, owingChecks, finalState, refused, outcome}
 use Rattle.definition.specs.42-Account.{Owes}
 use Rattle.definition.specs.44-Demands.{StepsHold, InTable, in-step, in-end, Passes, Justified, Needs, Lists, HeaderOfBytes}
-use Rattle.definition.specs.46-Requests.{StrayTold, RefiningTold, AccountOf, RefinesWithoutLog}
+use Rattle.definition.specs.46-Requests.{StrayTold, RefiningTold, AccountOf, RefinesWithoutLog, SizeHeld, ColumnAfter}
 use Rattle.definition.specs.51-Files.{createsRow}
 use Rattle.definition.specs.52-Evaluation.{evaluated}
 use Rattle.definition.specs.53-Desk.{lent, grantWith, grant, visit, twice, built}
 use Rattle.definition.specs.56-SeenRows.{fourRows, rows-admitted}
 use Rattle.definition.specs.58-Table.{grantByte, grantAnd, laterPremise, supposedOwed, stray, line, reasoned, refiningBy, refining, tautologyAt, nested, builtTable}
+use Rattle.definition.specs.59-Sizes.{lentColumn, doubled, withLarge, withRepeat, builtSizes}
 
 -- Demand 1: what a refusal by 2, 4, 13, 17, 21 and 23 says.
 pub part-told : InTable (grantByte 4 35) 3 2 0
@@ -196,6 +200,33 @@ creator = grantWith 0 0 0 0 [] []
 pub creator-owes-nothing : (admission creator ≡ accepts tt) × (caseOf creator .steps ≡ 0) × ((f : Formula) → Owes (caseOf creator .agent) (caseOf creator .action) f → ⊥)
 unfolding built
 creator-owes-nothing = none-owed-exactly creator lent .0 refl
+
+-- Request 4: a column in which the largest size is held, and the columns where 3 and 4 refuse.
+seven-rows : ltb 6 (bookRows (joinAll doubled)) ≡ true
+unfolding evaluated builtSizes
+seven-rows = refl
+
+pub largest-held : SizeHeld (joinAll doubled) (sizeColumn (joinAll doubled) lentColumn) 6
+unfolding evaluated builtSizes
+largest-held = admitted-told (joinAll doubled) lentColumn refl refl .held 6 (ltb-true 6 _ seven-rows)
+
+pub largest-is : getD (sizeColumn (joinAll doubled) lentColumn) 6 0 ≡ 64
+unfolding evaluated builtSizes
+largest-is = refl
+
+pub largest-fits : (1 ≤ nodes (treeIn (book (joinAll doubled)) 6)) × (nodes (treeIn (book (joinAll doubled)) 6) ≤ 64)
+largest-fits = sizes-fit (joinAll doubled) 6 (largest-held .row)
+
+pub largest-rows : nodes (treeIn (book (joinAll doubled)) 6) ≡ length (rowsOf (joinAll doubled) 6)
+largest-rows = size-is-rows (joinAll doubled) 6 (largest-held .row)
+
+pub sizes-before-bad : ColumnAfter (joinAll withLarge) lentColumn (sizeColumn (joinAll withLarge) lentColumn) (refuses 3 7)
+unfolding evaluated builtSizes
+sizes-before-bad = tells-sizes (joinAll withLarge) lentColumn _ refl .1 refl
+
+pub sizes-with-repeat : ColumnAfter (joinAll withRepeat) lentColumn (sizeColumn (joinAll withRepeat) lentColumn) (refuses 4 7)
+unfolding evaluated builtSizes
+sizes-with-repeat = tells-sizes (joinAll withRepeat) lentColumn _ refl .1 refl
 
 -- Demand 3: the header's bytes stay where it is made of bytes, and this one is.
 low-header : all (λ j. ltb (getD (fourRows 0 (absent ∷ [])) j 0) 256) 36 0 ≡ true

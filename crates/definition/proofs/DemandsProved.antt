@@ -11,10 +11,11 @@ use Rattle.definition.proofs.Refining as refining
 use Rattle.definition.proofs.RefiningPlaces as places
 use Rattle.definition.proofs.RefusalTable as table
 use Rattle.definition.proofs.RoomLaws as room
+use Rattle.definition.proofs.SizeColumns as sizes
 use Rattle.definition.proofs.StruckFile as struck
 use Rattle.definition.proofs.UnseenRows as unseen
 use Rattle.definition.specs.44-Demands.{RefusalKeepsRoom, NoneOwedKeepsRoom, PassKeepsRest, FirstIsTold, RefusedByTable, StepIsPlace, PassesExactly, RefusedForRoom, NoneOwedExactly, PassLists, EachUseOnce, UnseenRowsAreUnseen, AsIfStruck, StrikesUnseen, OneMeaningOneNumber}
-use Rattle.definition.specs.46-Requests.{NumbersAlone, FitsAsBefore, TellsStray, PlaceByBook, StraysAlone, TellsRefining, RefiningsAlone, HoldsWithoutLog}
+use Rattle.definition.specs.46-Requests.{NumbersAlone, FitsAsBefore, TellsStray, PlaceByBook, StraysAlone, TellsRefining, RefiningsAlone, HoldsWithoutLog, TellsSizes, SizeIsRows, SizesFit, SizesShowNoRow}
 
 pub record Demand1 : Type 0 where
   pub refusal-keeps-room : RefusalKeepsRoom
@@ -36,6 +37,7 @@ pub record Demand3 : Type 0 where
   pub as-if-struck : AsIfStruck
   pub strikes-unseen : StrikesUnseen
   pub place-by-book : PlaceByBook
+  pub sizes-show-no-row : SizesShowNoRow
 
 pub record Request1 : Type 0 where
   pub numbers-alone : NumbersAlone
@@ -49,6 +51,11 @@ pub record Request3 : Type 0 where
   pub holds-without-log : HoldsWithoutLog
   pub tells-refining : TellsRefining
   pub refinings-alone : RefiningsAlone
+
+pub record Request4 : Type 0 where
+  pub tells-sizes : TellsSizes
+  pub size-is-rows : SizeIsRows
+  pub sizes-fit : SizesFit
 
 pub demand-1 : Demand1
 demand-1 =
@@ -78,6 +85,7 @@ demand-3 =
       as-if-struck = unseen.as-if-struck;
       strikes-unseen = struck.strikes-unseen;
       place-by-book = strays.place-by-book;
+      sizes-show-no-row = sizes.sizes-show-no-row;
     }
 
 pub one-meaning-one-number : OneMeaningOneNumber
@@ -91,3 +99,6 @@ request-2 = record { tells-stray = strays.tells-stray; strays-alone = own.strays
 
 pub request-3 : Request3
 request-3 = record { holds-without-log = refining.holds-without-log; tells-refining = places.tells-refining; refinings-alone = own.refinings-alone }
+
+pub request-4 : Request4
+request-4 = record { tells-sizes = sizes.tells-sizes; size-is-rows = sizes.size-is-rows; sizes-fit = sizes.sizes-fit }

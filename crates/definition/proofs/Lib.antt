@@ -26,6 +26,7 @@ pub mod StepLaws
 pub mod Tautologies
 pub mod OwnNumbers
 pub mod StrayLaws
+pub mod SizeColumns
 pub mod StrayPlaces
 pub mod Sound
 pub mod Complete

@@ -158,16 +158,16 @@ lower-rows i (creates-row e f t) a = absurd (rw e at a)
 lower-rows i (user-action-row e f g t) a = absurd (rw e at a)
 
 module _ {s : List ℕ} where
-  shaped : {k : ℕ} → GoodRow s k → Shape (book s) k (rowAt s k)
+  pub shaped : {k : ℕ} → GoodRow s k → Shape (book s) k (rowAt s k)
   shaped {k} g = row-shape s k (g .good k (omega arith)) (g .inside)
 
-  child-lower : {k i : ℕ} → GoodRow s k → Among i (childrenOf (rowAt s k)) → i < k
+  pub child-lower : {k i : ℕ} → GoodRow s k → Among i (childrenOf (rowAt s k)) → i < k
   child-lower {k} {i} g a = lower-rows i (shaped g) a
 
   good-below : {k i : ℕ} → GoodRow s k → i ≤ k → GoodRow s i
   good-below g le = record { good = λ j l. g .good j (omega arith); inside = omega (arith, g .inside); few = omega (arith, g .few) }
 
-  child-good : {k i : ℕ} → GoodRow s k → Among i (childrenOf (rowAt s k)) → GoodRow s i
+  pub child-good : {k i : ℕ} → GoodRow s k → Among i (childrenOf (rowAt s k)) → GoodRow s i
   child-good g a = let lt = child-lower g a in good-below g (omega arith)
 
   -- what is reached is not above

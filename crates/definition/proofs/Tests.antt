@@ -95,13 +95,16 @@ pub one-answer : (a : Bool) {b : Bool} {P : Type 0} → ((a ≡ true) ↔ P) →
 one-answer true h k = sym (k .1 (h .0 refl))
 one-answer false h k = sym (refutes k .1 (λ p. false≢true (h .1 p)))
 
--- Of two numbers one is lower, or they are equal.
-pub trichotomy : (a b : ℕ) → (a < b) ⊎ ((a ≡ b) ⊎ (b < a))
-trichotomy a b = go (ltb a b) refl
+-- A number is lower than another, or it is not. Of two numbers one is lower, or they are equal.
+pub below-or-not : (a b : ℕ) → (a < b) ⊎ (b ≤ a)
+below-or-not a b = go (ltb a b) refl
   where
-    go : (t : Bool) → ltb a b ≡ t → (a < b) ⊎ ((a ≡ b) ⊎ (b < a))
+    go : (t : Bool) → ltb a b ≡ t → (a < b) ⊎ (b ≤ a)
     go true e = inl (ltb-true a b e)
-    go false e = inr (⊎-elim (λ q. inl (sym q)) (λ l. inr l) (eq-or-lt-of-le (ltb-false a b e)))
+    go false e = inr (ltb-false a b e)
+
+pub trichotomy : (a b : ℕ) → (a < b) ⊎ ((a ≡ b) ⊎ (b < a))
+trichotomy a b = ⊎-elim (λ l. inl l) (λ le. inr (⊎-elim (λ q. inl (sym q)) (λ l. inr l) (eq-or-lt-of-le le))) (below-or-not a b)
 
 -- A number that is none of 0 to n - 1 is n or more, as a match leaves it.
 abbrev pub NoneOf : Type 0 → ℕ → ℕ → Type 0

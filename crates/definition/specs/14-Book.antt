@@ -1,11 +1,11 @@
--- The formula part of a case file: rows of eight bytes, their trees, checks 3 and 4, and which rows a tree has.
+-- The formula part of a case file: rows of eight bytes, their trees, checks 3 and 4, the column of sizes, and which rows a tree has.
 use Prim.Native.Nat.{ℕ, zero, suc, _+_, _*_, _/_, _%_}
 use mathlib.Core.Bool.{Bool, true, false, cond, not, _&&_, _||_}
 use mathlib.Core.List.{List, [], _∷_, _++_, map}
-use lib.ListN.{length, getD}
+use lib.ListN.{length, getD, drop}
 use lib.Dec.{eqb, ltb, leb}
 use Rattle.definition.specs.01-Words.{word, absent}
-use Rattle.definition.specs.02-Ranges.{any, lowest}
+use Rattle.definition.specs.02-Ranges.{any, lowest, listed}
 use Rattle.definition.specs.03-Lists.{isAmong, joinAll}
 use Rattle.definition.specs.04-Checks.{Check, single, each, Checked, inOrder}
 use Rattle.definition.specs.11-Layout.{rowBytes, formula-part, mostRecords}
@@ -166,6 +166,19 @@ bookChecks s =
 unfoldable pub bookAdmission : List ℕ → Checked (Unit {0})
 bookAdmission s = inOrder (single 2 formula-part (isMisshapen s) ∷ bookChecks s)
 
+-- Document 02, request 4, tells of the sizes "for each admitted row". Where a check refuses, the column holds those of the rows below the first bad one; of all, if none is bad; of none, if the bytes are misshapen. This is how many.
+unfoldable pub sizedRows : List ℕ → ℕ
+sizedRows s =
+    let l = book s in
+    cond (isMisshapen s) 0 (lowest (badFormula s l) (bookRows s) 0)
+
+-- "A column of 1,024 bytes" is lent, and this is the column after the checks: "byte k exactly the nodes of row k's tree" for each of these rows, and every other byte as lent. No check reads it.
+unfoldable pub sizeColumn : (s lent : List ℕ) → List ℕ
+sizeColumn s lent =
+    let l = book s in
+    let rows = sizedRows s in
+    listed (λ k. nodes (treeIn l k)) rows 0 ++ drop rows lent
+
 -- The lower rows that a row holds, by its kind, 0 to 10.
 unfoldable pub childrenOf : Row → List ℕ
 childrenOf r =
@@ -205,5 +218,5 @@ strayRow s k =
 
 -- What an evaluation unfolds of this file.
 unfoldable pub evaluatedBook : Unit {0}
-unfolding rowAt bookRows sortOfCode treeIn treeOf grow trees book allAbsent termsFirst inPlace policyBelow actionBelow bindsOwnSort agentAndData agentPolicyAgent twoPolicies sortAndBody actionAndPolicy fitTable fieldsFit badFormula sameRow repeatsLower isMisshapen bookChecks bookAdmission childrenOf rowsWithin rowsOf holdsVariable strayRow
+unfolding rowAt bookRows sortOfCode treeIn treeOf grow trees book allAbsent termsFirst inPlace policyBelow actionBelow bindsOwnSort agentAndData agentPolicyAgent twoPolicies sortAndBody actionAndPolicy fitTable fieldsFit badFormula sameRow repeatsLower isMisshapen bookChecks bookAdmission sizedRows sizeColumn childrenOf rowsWithin rowsOf holdsVariable strayRow
 evaluatedBook = tt

@@ -1,22 +1,25 @@
--- What the requests of document 02 promise, and what they leave as it was. Proved in proofs/OwnNumbers, proofs/MisfitLaws, proofs/StrayPlaces, proofs/Refining and proofs/RefiningPlaces.
+-- What the requests of document 02 promise, and what they leave as it was. Proved in proofs/OwnNumbers, proofs/MisfitLaws, proofs/StrayPlaces, proofs/Refining, proofs/RefiningPlaces and proofs/SizeColumns.
 use Prim.Native.Nat.{ℕ, _≤_, _<_}
 use mathlib.Core.Bool.{Bool, false, cond, _||_}
 use mathlib.Core.Path.{_≡_}
 use mathlib.Core.Logic.{_⊎_, _↔_}
 use mathlib.Core.List.{List, [], _∷_}
-use lib.ListN.{length}
+use lib.ListN.{length, getD}
 use lib.Dec.{eqb}
-use Rattle.definition.specs.03-Lists.{Among}
-use Rattle.definition.specs.04-Checks.{Check, Checked, numberOf, accepts, _>>_, inOrder, AllHold, FirstFault}
+use Rattle.definition.specs.03-Lists.{Among, Kept}
+use Rattle.definition.specs.04-Checks.{Check, Checked, numberOf, accepts, refuses, _>>_, inOrder, AllHold, FirstFault}
 use Rattle.definition.specs.11-Layout.{formula-part, label-part, agentOf, part}
-use Rattle.definition.specs.13-Formulas.{Formula, says, implies}
+use Rattle.definition.specs.13-Formulas.{Formula, says, implies, nodes}
+use Rattle.definition.specs.14-Book.{bookRows, treeIn, book, bookAdmission, sizeColumn, rowsOf}
 use Rattle.definition.specs.15-Records.{stepFormula}
 use Rattle.definition.specs.17-Case.{Case, caseOf}
 use Rattle.definition.specs.18-Admission.{Parted}
+use Rattle.definition.specs.19-Rewriting.{strike}
 use Rattle.definition.specs.22-Steps.{Labels, premisesOf, misfit, fitChecks, stepChecks, stateAt}
 use Rattle.definition.specs.31-Outcome.{Verdict, passed, none-owed, refused, Outcome, Finding, allChecks, found, report, outcome}
-use Rattle.definition.specs.41-Occurrences.{StrayIs}
+use Rattle.definition.specs.41-Occurrences.{GoodRow, StrayIs}
 use Rattle.definition.specs.42-Account.{HandedOn, Tautology, Proof}
+use Rattle.definition.specs.43-Alike.{Alike}
 use Rattle.definition.specs.44-Demands.{StepsHold, Passes}
 
 -- The checks of a list without those of some numbers.
@@ -167,6 +170,50 @@ pub record RefinesWithoutLog (s : List ℕ) (k : ℕ) : Type 0 where
 -- So it is with every step of rule 4 in a case that passes.
 abbrev pub HoldsWithoutLog : Type 0
 HoldsWithoutLog = (s room : List ℕ) → Passes s room → (k : ℕ) → k < caseOf s .steps → caseOf s .step k .rule ≡ 4 → RefinesWithoutLog s k
+
+-- Request 4: "a narrower size column". The column holds the size of row k, a good row of the book s: byte k is the number of nodes of its tree. This is what a function that reads a size asks for.
+pub record SizeHeld (s sizes : List ℕ) (k : ℕ) : Type 0 where
+  pub row : GoodRow s k
+  pub there : k < length sizes
+  pub size : getD sizes k 0 ≡ nodes (treeIn (book s) k)
+
+-- It holds those of rows 0 to n - 1.
+abbrev pub SizesHeld : (s sizes : List ℕ) → ℕ → Type 0
+SizesHeld s sizes n = (k : ℕ) → k < n → SizeHeld s sizes k
+
+-- The same of a column that was lent: it is as long as it was, and every other byte is as lent.
+pub record SizesTold (s lent after : List ℕ) (n : ℕ) : Type 0 where
+  pub held : SizesHeld s after n
+  pub as-long : length after ≡ length lent
+  pub others : Kept n lent after
+
+-- A column after the checks of a book, for each answer that they give. Admitted, or refused by 4: it holds the sizes of all rows. Refused by 3 at row p: those of the rows below p. Refused by 2, as misshapen: it is as lent.
+pub data ColumnAfter (s lent after : List ℕ) : Checked (Unit {0}) → Type 0 where
+  admitted : SizesTold s lent after (bookRows s) → ColumnAfter s lent after (accepts tt)
+  misshapen : after ≡ lent → ColumnAfter s lent after (refuses 2 0)
+  bad-row : {p : ℕ} → SizesTold s lent after p → ColumnAfter s lent after (refuses 3 p)
+  repeated : {p : ℕ} → SizesTold s lent after (bookRows s) → ColumnAfter s lent after (refuses 4 p)
+
+-- The definition's column is such a one, and no other is: for any bytes as a book, and any column of 1,024 bytes.
+abbrev pub TellsSizes : Type 0
+TellsSizes = (s lent after : List ℕ) → length lent ≡ 1024 → ColumnAfter s lent after (bookAdmission s) ↔ (after ≡ sizeColumn s lent)
+
+-- "Written out as a tree": a size is the number of rows of the tree, the row itself included, each as often as it stands there. Terms are no rows.
+abbrev pub SizeIsRows : Type 0
+SizeIsRows = (s : List ℕ) (k : ℕ) → GoodRow s k → nodes (treeIn (book s) k) ≡ length (rowsOf s k)
+
+-- "An admitted formula has at most 64 nodes": a size is from 1 to 64, and fits a byte.
+abbrev pub SizesFit : Type 0
+SizesFit = (s : List ℕ) (k : ℕ) → GoodRow s k → (1 ≤ nodes (treeIn (book s) k)) × (nodes (treeIn (book s) k) ≤ 64)
+
+-- For demand 3: the column is of the formulas alone. Files that are alike to the agent have the same, and so has the file with every unseen row struck out.
+abbrev pub columnOf : (s lent : List ℕ) → List ℕ
+columnOf s lent = sizeColumn (part s formula-part) lent
+
+abbrev pub SizesShowNoRow : Type 0
+SizesShowNoRow = (s lent : List ℕ) → ((t : List ℕ) → Alike s t → columnOf s lent ≡ columnOf t lent) × (columnOf s lent ≡ columnOf (strike s) lent)
+
+-- "All verdicts stay the same": no check reads the column, so there is nothing to show of them.
 
 -- What an evaluation unfolds of this file.
 unfoldable pub evaluatedRequests : Unit {0}

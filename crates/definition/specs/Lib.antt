@@ -1,4 +1,4 @@
--- What is right, in document 01's order: 0 numbers, lists and checks; 1 the case file; 2 the steps of a justification; 3 the verdict; 4 the demands, and what requests of document 02 leave as it was; 5 examples.
+-- What is right, in document 01's order: 0 numbers, lists and checks; 1 the case file; 2 the steps of a justification; 3 the verdict; 4 the demands, and what requests of document 02 promise and leave as it was; 5 examples.
 pub mod 01-Words
 pub mod 02-Ranges
 pub mod 03-Lists
@@ -32,3 +32,4 @@ pub mod 55-HiddenRows
 pub mod 56-SeenRows
 pub mod 57-Texts
 pub mod 58-Table
+pub mod 59-Sizes

@@ -12,21 +12,21 @@ use Rattle.definition.specs.11-Layout.{mostRecords}
 use Rattle.definition.specs.14-Book.{bookRows, book, badFormula, repeatsLower, isMisshapen, bookChecks, bookAdmission}
 
 module _ (s : List ℕ) where
-  refused-whole : isMisshapen s ≡ true → refuses 2 0 ≡ bookAdmission s
+  pub refused-misshapen : isMisshapen s ≡ true → refuses 2 0 ≡ bookAdmission s
   unfolding bookAdmission
-  refused-whole e = sym (stops _ (bookChecks s) 2 0 (refl, refl, e))
+  refused-misshapen e = sym (stops _ (bookChecks s) 2 0 (refl, refl, e))
 
-  pub refused-ragged : (length s % 8 ≡ 0 → ⊥) → refuses 2 0 ≡ bookAdmission s
+  pub ragged : (length s % 8 ≡ 0 → ⊥) → isMisshapen s ≡ true
   unfolding isMisshapen
-  refused-ragged h = refused-whole (rw (ne-eqb (length s % 8) 0 h))
+  ragged h = rw (ne-eqb (length s % 8) 0 h)
 
   module _ (whole : length s % 8 ≡ 0) where
-    pub refused-long : 1024 < bookRows s → refuses 2 0 ≡ bookAdmission s
+    pub too-long : 1024 < bookRows s → isMisshapen s ≡ true
     unfolding isMisshapen mostRecords
-    refused-long h = refused-whole (rw (eq-eqb (length s % 8) 0 whole, lt-ltb 1024 (bookRows s) h))
+    too-long h = rw (eq-eqb (length s % 8) 0 whole, lt-ltb 1024 (bookRows s) h)
 
     module _ (few : bookRows s ≤ 1024) where
-      shapely : isMisshapen s ≡ false
+      pub shapely : isMisshapen s ≡ false
       unfolding isMisshapen mostRecords
       shapely = rw (eq-eqb (length s % 8) 0 whole, le-ltb 1024 (bookRows s) few)
 

@@ -1,22 +1,24 @@
--- What callers of this library may cite, and they cite this file alone: what `admit`'s answer says of the rows, a row's fields from its tree and the tree from its fields, one number for a tree, and what each answer about a formula says of it. Assumes nothing.
-use Prim.Native.Nat.{ℕ, _-_, _≤_, _<_, _%_}
+-- What callers of this library may cite, and they cite this file alone: what `admit`'s answer says of the rows and of the column of sizes, a row's fields from its tree and the tree from its fields, one number for a tree, and what each answer about a formula says of it. Assumes nothing.
+use Prim.Native.Nat.{ℕ, _-_, _≤_, _<_}
 use mathlib.Core.Path.{_≡_, refl, ap}
-use mathlib.Core.Bool.{Bool, true, false, cond, not}
+use mathlib.Core.Bool.{Bool, true, false, cond}
 use mathlib.Core.List.{List, _∷_}
 use lib.ListN.{length}
 use native.Mathlib.Omega.{arith}
 use lib.Dec.{eqb, ltb, leb}
-use borrow.Author.Tests.{ltb-false, eqb-true, eq-eqb}
+use borrow.Author.Tests.{eqb-true, eq-eqb}
 use Rattle.definition.proofs.CheckLaws.{all-hold, by-number}
 use Rattle.definition.specs.01-Words.{absent}
 use Rattle.definition.specs.04-Checks.{single, AllHold}
-use Rattle.definition.specs.11-Layout.{formula-part, rowBytes, mostRecords}
-use Rattle.definition.proofs.Tests.{or-false, one-answer}
+use Rattle.definition.specs.11-Layout.{formula-part}
+use Rattle.definition.proofs.SizeColumns.{few-rows, admitted-told}
+use Rattle.definition.proofs.Tests.{one-answer}
 use Rattle.definition.specs.12-Terms.{agents, data-objects, object, parameter, variable, absent-term, no-term, classOf, isObject, sameSort}
 use Rattle.definition.specs.13-Formulas.{same, isPolicy, isAction, isPredicate}
-use Rattle.definition.specs.14-Book.{Row, rowAt, bookRows, treeIn, treeOf, trees, book, badFormula, sameRow, repeatsLower, isMisshapen, bookChecks, bookAdmission}
+use Rattle.definition.specs.14-Book.{Row, rowAt, bookRows, treeIn, treeOf, trees, book, badFormula, sameRow, repeatsLower, isMisshapen, bookChecks, bookAdmission, sizeColumn}
 use Rattle.formula_book.specs.GoodRows.{GoodRow}
 use Rattle.formula_book.specs.AdmittedBooks.{AdmittedBook}
+use Rattle.formula_book.specs.Sizes.{SizesHeld}
 use Rattle.definition.proofs.OneNumber.{Has, fields, one-number}
 use Rattle.definition.proofs.Trees.{Shape, row-shape}
 use Rattle.definition.proofs.TreeEquality.{same-is}
@@ -27,6 +29,7 @@ pub use Rattle.formula_walks.proofs.WalkLaws.{bound-present, free-present, para
 pub use Rattle.formula_book.proofs.DataAnswerLaws.{is-stray, is-clear, stray-is, clear-is}
 pub use Rattle.formula_book.proofs.WalkedRows.{policy-here, action-here, good-inside}
 pub use Rattle.definition.proofs.Trees.{beyond, number-inside}
+pub use Rattle.definition.proofs.SizeColumns.{tells-sizes, size-is-rows, sizes-fit}
 
 -- The laws of an admitted book.
 module _ (s : List ℕ) (is : AdmittedBook s) where
@@ -35,8 +38,7 @@ module _ (s : List ℕ) (is : AdmittedBook s) where
   passed = all-hold (single 2 formula-part (isMisshapen s) ∷ bookChecks s) (is .passes)
 
   pub admitted-few : bookRows s ≤ 1024
-  unfolding isMisshapen mostRecords
-  admitted-few = ltb-false 1024 (bookRows s) (or-false (not (eqb (length s % rowBytes) 0)) (ltb 1024 (bookRows s)) (passed .0) .1)
+  admitted-few = few-rows s (passed .0)
 
   pub admitted-good : (k : ℕ) → k < bookRows s → badFormula s (book s) k ≡ false
   unfolding bookChecks
@@ -48,6 +50,10 @@ module _ (s : List ℕ) (is : AdmittedBook s) where
 
   pub admitted-row : (row : ℕ) → row < bookRows s → GoodRow s row
   admitted-row row below = record { good = λ j le. admitted-good j (omega arith); inside = below; few = omega (arith, admitted-few) }
+
+  -- The column that `admit_into` leaves holds the size of each row, as `size_of` asks for it, whatever was lent.
+  pub admitted-sizes : (lent : List ℕ) → length lent ≡ 1024 → SizesHeld s (sizeColumn s lent) (bookRows s)
+  admitted-sizes lent lent-is = admitted-told s lent lent-is (is .passes) .held
 
   -- Equal trees have equal numbers.
   pub admitted-one-number : (j k : ℕ) → j < bookRows s → k < bookRows s → treeIn (book s) j ≡ treeIn (book s) k → j ≡ k

@@ -5,6 +5,6 @@ use mathlib.Core.List.{List}
 use Rattle.definition.specs.04-Checks.{accepts}
 use Rattle.definition.specs.14-Book.{bookAdmission}
 
--- The book is whole, and checks 3 and 4 let it pass. A table beside the book would be a field more here.
+-- The book is whole, and checks 3 and 4 let it pass. The column beside it is told of by `SizeHeld` (Sizes), which is asked where a size is read.
 pub record AdmittedBook (s : List ℕ) : Type 0 where
   pub passes : bookAdmission s ≡ accepts tt

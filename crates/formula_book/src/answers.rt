@@ -8,14 +8,16 @@ use formula_walks::policy_has;
 use formula_walks::policy_instance;
 ghost use mathlib.Core.Path.{_≡_};
 ghost use mathlib.Core.Bool.{true};
+ghost use Prim.Native.Nat.{_≤_};
 ghost use lib.ListN.{length};
-ghost use Rattle.definition.specs.13-Formulas.{isPolicy, same, put, has, dataOf, closed, ground};
+ghost use Rattle.definition.specs.13-Formulas.{isPolicy, same, put, has, dataOf, closed, ground, nodes};
 ghost use Rattle.definition.specs.14-Book.{treeIn, book as trees};
 ghost use Rattle.formula_rows.specs.Meanings.{sortMeant, soughtMeant};
 ghost use Rattle.formula_walks.specs.DataWalk.{DataListed};
 ghost use Rattle.formula_walks.specs.WalkRows.{Present};
 ghost use Rattle.formula_book.specs.DataAnswers.{dataMeant, strayOr};
 ghost use Rattle.formula_book.specs.GoodRows.{GoodRow};
+ghost use Rattle.formula_book.specs.Sizes.{SizeHeld};
 
 // Does what is looked for stand in formula `row`?
 pub fn formula_has(book: &[u8], w: Sought, row: usize) -> bool
@@ -66,6 +68,14 @@ pub fn data_of(book: &[u8], row: usize, set: &mut [u16; 192]) -> Data
         return Data::Stray(all.low as u16);
     }
     Data::Listed(all.many)
+}
+
+// The nodes of formula `row`, as the column has them. The book is there for the contract alone.
+pub fn size_of(book: &[u8], sizes: &[u8], row: usize) -> usize
+    requires { ⌜ SizeHeld (now book) (now sizes) row ⌝ }
+    ensures { λ r. ⌜ (r ≡ nodes (treeIn (trees (now (book .entry))) row)) × (r ≤ 64) ⌝ }
+{
+    sizes[row] as usize
 }
 
 // Is formula `row` the policy `body` with the term put in for the variable of a for-all over the sort?

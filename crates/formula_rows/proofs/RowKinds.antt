@@ -1,12 +1,12 @@
 -- What the kind of a row that is not bad says of its tree, and how many nodes it has. By the eleven shapes. Assumes nothing.
-use Prim.Native.Nat.{ℕ, _+_}
+use Prim.Native.Nat.{ℕ}
 use mathlib.Core.Path.{_≡_}
 use mathlib.Core.List.{List}
 use lib.Dec.{eqb, ltb, leb}
 use Rattle.definition.proofs.Trees.{Shape, predicate-row, owns-row, says-row, and-row, for-all-row, implies-row, each-use-row, once-row, communicates-row, creates-row, user-action-row}
 use Rattle.definition.specs.13-Formulas.{Formula, isPolicy, isAction, isPredicate, nodes}
 use Rattle.definition.specs.14-Book.{Row, treeIn}
-use Rattle.formula_rows.specs.Nodes.{Node, leaf, said, pair, body, duty, no-node, nodeOf, nodeTable}
+use Rattle.formula_rows.specs.Nodes.{nodeOf, nodeTable, nodesOf}
 
 pub shape-policy : {l : List Formula} {k : ℕ} {r : Row} → Shape l k r → isPolicy (treeIn l k) ≡ ltb (r .kind) 8
 unfolding isPolicy
@@ -49,15 +49,6 @@ shape-predicate (once-row e f t) = rw (t, e)
 shape-predicate (communicates-row e f t) = rw (t, e)
 shape-predicate (creates-row e f t) = rw (t, e)
 shape-predicate (user-action-row e f g t) = rw (t, e)
-
--- the nodes of a row's tree, by its node
-unfoldable pub nodesOf : List Formula → Node → ℕ
-nodesOf l (leaf x y z) = 1
-nodesOf l (said x y z) = nodes (treeIn l y) + 1
-nodesOf l (pair x y) = nodes (treeIn l x) + nodes (treeIn l y) + 1
-nodesOf l (body x) = nodes (treeIn l x) + 1
-nodesOf l (duty x y) = nodes (treeIn l x) + nodes (treeIn l y) + 1
-nodesOf l no-node = 1
 
 pub shape-nodes : {l : List Formula} {k : ℕ} {r : Row} → Shape l k r → nodes (treeIn l k) ≡ nodesOf l (nodeOf r)
 unfolding nodes nodesOf nodeOf nodeTable

@@ -4,7 +4,7 @@ use crate::numbers::VerdictNumbers;
 use crate::numbers::run_numbers;
 use crate::numbers::verdict_numbers;
 ghost use mathlib.Core.Path.{_≡_};
-ghost use Rattle.definition.specs.14-Book.{bookAdmission};
+ghost use Rattle.definition.specs.14-Book.{bookAdmission, sizeColumn};
 ghost use Rattle.definition.specs.32-Numbers.{verdictNumbers, runNumbers};
 ghost use Rattle.definition.specs.45-Promises.{Answered, AdmissionAnswered};
 ghost use Rattle.justification.specs.Meanings.{verdictNumbersMeant, runNumbersMeant};
@@ -31,4 +31,12 @@ pub extern "C" fn formula_book_admit(book: &[u8]) -> RunNumbers
     ensures { λ r. ⌜ runNumbersMeant r ≡ runNumbers (bookAdmission (now (book .entry))) ⌝ }
 {
     run_numbers(formula_book::admit(book))
+}
+
+// The same, and the column of sizes after it: byte k is the nodes of formula k.
+#[no_mangle]
+pub extern "C" fn formula_book_sizes(book: &[u8], sizes: &mut [u8; 1024]) -> RunNumbers
+    ensures { λ r. ⌜ (runNumbersMeant r ≡ runNumbers (bookAdmission (now (book .entry)))) × (now (sizes .exit) ≡ sizeColumn (now (book .entry)) (now (sizes .entry))) ⌝ }
+{
+    run_numbers(formula_book::admit_into(book, sizes))
 }
