@@ -1,4 +1,4 @@
--- What callers of this library may cite, and they cite this file alone: what `admit`'s answer says of the rows and of the column of sizes, a row's fields from its tree and the tree from its fields, one number for a tree, and what each answer about a formula says of it. Assumes nothing.
+-- What callers of this library may cite, and they cite this file alone: what `admit`'s answer says of the rows, which sizes the column of `admit_into` holds, a row's fields from its tree and the tree from its fields, one number for a tree, and what each answer about a formula says of it. Assumes nothing.
 use Prim.Native.Nat.{ℕ, _-_, _≤_, _<_}
 use mathlib.Core.Path.{_≡_, refl, ap}
 use mathlib.Core.Bool.{Bool, true, false, cond}

@@ -2,7 +2,7 @@
 use Prim.Native.Nat.{ℕ, _+_, _≤_, _<_}
 use mathlib.Core.Path.{_≡_, refl, sym, _∙_}
 use mathlib.Core.Bool.{Bool, true, false}
-use mathlib.Core.Logic.{_⊎_, ⊎-elim}
+use mathlib.Core.Logic.{⊎-elim}
 use mathlib.Core.List.{List}
 use native.Mathlib.Nat.{eq-or-lt-of-le}
 use native.Mathlib.Omega.{arith}
@@ -81,8 +81,7 @@ pub told-more :
     SizesTold s lent (set sizes k size) (k + 1)
 told-more {s} {lent} {sizes} {k} size t inside few there is some =
     let h = some-good s k (λ e. some (is ∙ e)) in
-    let last : (j : ℕ) → j ≤ k → (j ≡ k) ⊎ (j < k) = λ j le. eq-or-lt-of-le le in
-    let good : (j : ℕ) → j ≤ k → badFormula s (book s) j ≡ false = λ j le. ⊎-elim (λ q. rw q (h .0)) (good-row (t .held) j) (last j le) in
+    let good : (j : ℕ) → j ≤ k → badFormula s (book s) j ≡ false = λ j le. ⊎-elim (λ q. rw q (h .0)) (good-row (t .held) j) (eq-or-lt-of-le le) in
     record {
       held =
           λ j lt.
@@ -91,7 +90,7 @@ told-more {s} {lent} {sizes} {k} size t inside few there is some =
             there = omega (arith, length-set sizes k size);
             size =
                 ⊎-elim (λ q. rw q (getD-set-same sizes k size 0 there ∙ is ∙ h .1))
-                (λ l. getD-set-other sizes k j size 0 (omega arith) ∙ t .held j l .size) (last j (omega arith));
+                (λ l. getD-set-other sizes k j size 0 (omega arith) ∙ t .held j l .size) (eq-or-lt-of-le (omega arith));
           };
       as-long = length-set sizes k size ∙ t .as-long;
       others = λ j le. getD-set-other sizes k j size 0 (omega arith) ∙ t .others j (omega arith);
