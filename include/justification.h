@@ -39,6 +39,9 @@ extern "C" {
 #define JUSTIFICATION_LARGEST_FILE 47652
 #define JUSTIFICATION_ROOM 1088
 
+/* The most entries of an index by observer; see justification_index. */
+#define JUSTIFICATION_INDEX 16385
+
 /*
 ** A verdict: kind, and two values whose meaning depends on it.
 **
@@ -66,10 +69,10 @@ struct justification_verdict {
 
 /*
 ** Refusals, in the order in which the checks are made: 1 to 11 by number, the
-** lowest place first; then step by step, each through 12 to 17, then 27, 24, 25
-** and 26, then 18, 19 and 28; then 20 to 23. A number is a name and tells no
-** order. One exception: where a step cites a log row that is struck out, 16 is
-** tried before 14. All places are counted from 0.
+** lowest place first, and 30 between 9 and 10; then step by step, each through
+** 12 to 17, then 27, 24, 25 and 26, then 18, 19 and 28; then 20 to 23. A number
+** is a name and tells no order. One exception: where a step cites a log row that
+** is struck out, 16 is tried before 14. All places are counted from 0.
 **
 ** The file is damaged or not a case file. Ask whoever sent it for a good one.
 **
@@ -87,6 +90,14 @@ struct justification_verdict {
 **  7  An obligation has no mark 1 or 2, or no action. Place: the obligation.
 **  8  A label's mark and formula do not go together. Place: the label.
 **  9  The agent is no agent, or the audited action no action. Place: 0.
+**
+** The index by observer. Of justification_check neither is ever the answer.
+**
+** 29  justification_index only, after 5: the room is too short for the index.
+**     Place: the entries needed. Call again with a room of so many.
+** 30  justification_check_indexed only, after 9: what was lent does not begin
+**     with the index of this file's log. The log may have grown since; build
+**     the index anew, from this file. Place: 0.
 **
 ** The file is sound, and does not fit what is owed.
 **
@@ -177,6 +188,10 @@ struct justification_verdict {
             "its mark and its formula do not go together.")                    \
     REFUSAL(9, BAD_AUDIT, "",                                                  \
             "The agent is no agent, or the audited action is no action.")      \
+    REFUSAL(29, INDEX_ROOM_TOO_SHORT, "Entries needed",                        \
+            "the room for the index is too short.")                            \
+    REFUSAL(30, NOT_THE_INDEX, "",                                             \
+            "The index is not that of this file's log.")                       \
     REFUSAL(10, NO_STEPS, "",                                                  \
             "Something is owed, and no justification is given.")               \
     REFUSAL(11, STEPS_NOT_OWED, "",                                            \
@@ -326,6 +341,77 @@ struct justification_admission {
 
 struct justification_admission justification_admit(const uint8_t *file,
                                                    size_t file_bytes);
+
+/*
+** The index by observer.
+**
+** The index of a log says which rows each agent observes. It is a table of
+** 16-bit numbers: entry 0 is how many agents observe any row; then come three
+** entries for each of them, agents ascending: its number, where in the table
+** its list begins, counted from entry 0, and how long the list is; then the
+** lists, in the same order, each the numbers of the rows that the agent
+** observes, ascending, struck ones too. An agent that observes no row is not
+** in it. A log without rows has the index of one entry, 0. There are at most
+** JUSTIFICATION_INDEX entries: 1, three for each agent, and one for each
+** observer of each row.
+**
+** The index is the desk's own, and never the agent's: it shows all rows of the
+** log, who observes them, and how many there are, also to an agent that
+** observes none. Keep it where the log is kept. What the agent may get is the
+** verdict of justification_check_indexed with its room, in which no row shows
+** that the agent does not observe.
+**
+** justification_index builds it from the log of a case file, by checks 1 to 5
+** alone: agent, conditions, obligations, labels and steps do not matter.
+**
+** kind JUSTIFICATION_BUILT: the index stands in the first entries of index.
+**     first is how many they are, second is 0.
+** kind JUSTIFICATION_REFUSED: first is the number of the first check that
+**     fails, 1 to 5 or 29, second its place.
+**
+** It never reads an entry of index. It changes none where it refuses, and none
+** behind the index.
+**
+** justification_check_indexed is justification_check for a caller that has the
+** index: what the agent sees is read from its own list. It believes nothing in
+** it: where checks 1 to 9 pass, all its entries are first compared with those
+** due, and a table that is shorter or has another entry is refused by 30.
+** Entries behind the index are not looked at. Else the verdict and every entry
+** of the room are those of justification_check. One index serves all files
+** with the same log, whoever is the agent.
+**
+**     uint16_t index[JUSTIFICATION_INDEX];
+**     struct justification_verdict b =
+**         justification_index(file, file_bytes, index, JUSTIFICATION_INDEX);
+**     if (b.kind == JUSTIFICATION_BUILT)
+**         v = justification_check_indexed(file, file_bytes, index, b.first,
+**                                         room, JUSTIFICATION_ROOM);
+**
+** The check through an index is no faster than justification_check: check 5
+** reads all observers in any case, and the whole index is compared before it
+** is believed. Use it where the index is what the log is kept by.
+**
+** Hidden rows. Put any other action in a row that the agent does not observe,
+** strike it out, or change its other observers, and lend each file its own
+** index: the answer of justification_check_indexed stays the same, but for 1,
+** 2 and 5, as it is said at justification_check.
+**
+** What is said there of the file, the heap, the stack, threads and the caller
+** holds here too; index is valid for index_entries entries of two bytes each,
+** aligned for uint16_t, overlaps neither file nor room, and may be of length 0
+** as they may.
+*/
+#define JUSTIFICATION_BUILT 0
+
+struct justification_verdict justification_index(const uint8_t *file,
+                                                 size_t file_bytes,
+                                                 uint16_t *index,
+                                                 size_t index_entries);
+
+struct justification_verdict
+justification_check_indexed(const uint8_t *file, size_t file_bytes,
+                            const uint16_t *index, size_t index_entries,
+                            uint16_t *room, size_t room_entries);
 
 /*
 ** The sizes of formulas.

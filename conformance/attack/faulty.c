@@ -1,14 +1,30 @@
 /*
 ** Stands in for the library, to see that guard.c catches what it is for. It
-** refuses every file by 1, admits every book as if it had no formula, and FAULT
-** says what it does wrong: 0 for nothing.
+** knows one file, which `tests/attack.rs` has: nothing is owed in it, its book
+** has one formula, and agent 0 observes its one log row. It refuses every other
+** file by 1, and admits every other book as if it had no formula. FAULT says what
+** it does wrong: 0 for nothing.
 */
 #include "justification.h"
+
+/* Numbers of refusals that only an index brings. */
+#define INDEX_TOO_SHORT 29
+#define INDEX_NOT_AS_BUILT 30
+
+/* The bytes of the file that it knows, of its book, and its index. */
+#define KNOWN 52
+#define KNOWN_BOOK 8
+#define DUE 5
+static const uint16_t due[DUE] = {1, 0, 4, 1, 0};
+
+static const struct justification_verdict refused = {JUSTIFICATION_REFUSED,
+                                                     JUSTIFICATION_FILE_LENGTH, 0};
+static const struct justification_verdict none_owed = {JUSTIFICATION_NONE_OWED, 0, 0};
 
 struct justification_verdict justification_check(const uint8_t *file, size_t file_bytes,
                                                  uint16_t *room, size_t room_entries)
 {
-    struct justification_verdict verdict = {JUSTIFICATION_REFUSED, JUSTIFICATION_FILE_LENGTH, 0};
+    struct justification_verdict verdict = file_bytes == KNOWN ? none_owed : refused;
     volatile uint8_t *bytes = (volatile uint8_t *)(uintptr_t)file;
     volatile uint16_t *entries = room;
     switch (FAULT) {
@@ -45,7 +61,9 @@ struct justification_admission justification_admit(const uint8_t *file, size_t f
 {
     struct justification_admission admission = {JUSTIFICATION_FILE_LENGTH, 0};
     (void)file;
-    (void)file_bytes;
+    if (file_bytes == KNOWN) {
+        admission.number = 0;
+    }
     return admission;
 }
 
@@ -55,6 +73,9 @@ struct justification_admission formula_book_sizes(const uint8_t *book, size_t bo
     struct justification_admission admission = {0, 0};
     volatile uint8_t *bytes = (volatile uint8_t *)(uintptr_t)book;
     volatile uint8_t *column = sizes;
+    if (book_bytes == KNOWN_BOOK) {
+        column[0] = 1;
+    }
     switch (FAULT) {
     case 8: /* reads behind the book */
         (void)bytes[book_bytes];
@@ -78,4 +99,137 @@ struct justification_admission formula_book_sizes(const uint8_t *book, size_t bo
         break;
     }
     return admission;
+}
+
+/* Whether the entries begin with the index of the file that it knows. */
+static int is_as_built(const uint16_t *index, size_t index_entries)
+{
+    size_t looked_at = FAULT == 32 ? DUE - 1 : DUE; /* 32: does not look at the last entry */
+    size_t i;
+    if (FAULT == 33 && index_entries < looked_at) { /* 33: takes an index that is cut */
+        looked_at = index_entries;
+    }
+    if (index_entries < looked_at || (FAULT == 34 && index_entries > DUE)) {
+        return 0; /* 34: refuses an index that has entries behind it */
+    }
+    for (i = 0; i < looked_at; i++) {
+        if (index[i] != due[i]) {
+            return 0;
+        }
+    }
+    return 1;
+}
+
+struct justification_verdict justification_index(const uint8_t *file, size_t file_bytes,
+                                                 uint16_t *index, size_t index_entries)
+{
+    struct justification_verdict built = {JUSTIFICATION_PASSED, DUE, 0};
+    struct justification_verdict too_short = {JUSTIFICATION_REFUSED, INDEX_TOO_SHORT, DUE};
+    volatile uint8_t *bytes = (volatile uint8_t *)(uintptr_t)file;
+    volatile uint16_t *entries = index;
+    size_t written = file_bytes == KNOWN && index_entries >= DUE ? DUE : 0;
+    size_t i;
+    switch (FAULT) {
+    case 14: /* reads behind the file */
+        (void)bytes[file_bytes];
+        break;
+    case 15: /* writes to the file */
+        bytes[0] = 0;
+        break;
+    case 16: /* writes behind the index room */
+        entries[index_entries] = 0;
+        break;
+    case 17: /* writes before the index room */
+        *(entries - 1) = 0;
+        break;
+    case 18: /* writes an entry of a file that is refused */
+        written = file_bytes != KNOWN && index_entries > 0 ? 1 : written;
+        break;
+    case 19: /* writes entries before it knows that they are too few */
+        written = file_bytes == KNOWN && index_entries < DUE ? index_entries : written;
+        break;
+    case 20: /* writes an entry behind the index */
+        if (written == DUE && index_entries > DUE) {
+            entries[DUE] = 0;
+        }
+        break;
+    case 21: /* reads an entry behind the index */
+        if (written == DUE && index_entries > DUE) {
+            (void)entries[DUE];
+        }
+        break;
+    case 22: /* tells the entries that are there, and not those needed */
+        too_short.second = (uint16_t)index_entries;
+        break;
+    case 23: /* tells the entries of the room, and not those written */
+        built.first = (uint16_t)index_entries;
+        break;
+    case 24: /* leaves the last entry out */
+        written = written == DUE ? DUE - 1 : written;
+        break;
+    default:
+        break;
+    }
+    for (i = 0; i < written; i++) {
+        entries[i] = due[i];
+    }
+    if (file_bytes != KNOWN) {
+        return refused;
+    }
+    return index_entries >= DUE ? built : too_short;
+}
+
+struct justification_verdict justification_check_indexed(const uint8_t *file, size_t file_bytes,
+                                                         const uint16_t *index,
+                                                         size_t index_entries, uint16_t *room,
+                                                         size_t room_entries)
+{
+    struct justification_verdict not_as_built = {JUSTIFICATION_REFUSED, INDEX_NOT_AS_BUILT, 0};
+    volatile uint8_t *bytes = (volatile uint8_t *)(uintptr_t)file;
+    volatile uint16_t *lent = (volatile uint16_t *)(uintptr_t)index;
+    volatile uint16_t *entries = room;
+    int as_built = is_as_built(index, index_entries);
+    switch (FAULT) {
+    case 25: /* reads behind the file */
+        (void)bytes[file_bytes];
+        break;
+    case 26: /* writes to the file */
+        bytes[0] = 0;
+        break;
+    case 27: /* writes to the index */
+        if (index_entries > 0) {
+            lent[0] = 0;
+        }
+        break;
+    case 28: /* reads an entry behind the index */
+        if (as_built) {
+            (void)lent[DUE];
+        }
+        break;
+    case 29: /* reads before the index */
+        (void)*(lent - 1);
+        break;
+    case 30: /* writes behind the room */
+        entries[room_entries] = 0;
+        break;
+    case 31: /* writes to the room where the index is not as built */
+        if (!as_built && room_entries > 0) {
+            entries[0] = 0;
+        }
+        break;
+    case 35: /* gives another place */
+        not_as_built.second = 1;
+        break;
+    case 36: /* looks at the index before the file */
+        if (!as_built) {
+            return not_as_built;
+        }
+        break;
+    default:
+        break;
+    }
+    if (file_bytes != KNOWN) {
+        return refused;
+    }
+    return as_built ? none_owed : not_as_built;
 }

@@ -1,10 +1,11 @@
 /*
-** Checks case files between pages that no program may touch, and sizes their
-** formulas. A read beyond the file or the book, a write to it, or an access
-** beyond the room or the column stops the program.
+** Checks case files between pages that no program may touch, sizes their
+** formulas, indexes their logs, and checks them through the index. A read beyond
+** the file, the book or the index that is lent, a write to them, or an access
+** beyond the room, the column or the index room stops the program.
 **
 ** Standard input has records, as `src/pack.rs` writes them, each with the
-** verdict, the list and the sizes that the separate checker gives.
+** verdict, the list, the sizes and the index that the separate checker gives.
 */
 #define _DEFAULT_SOURCE
 
@@ -19,8 +20,18 @@
 
 #define FILE_AREA 65536
 #define ROOM_AREA 4096
-#define ROOM_ENTRIES (ROOM_AREA / 2)
 #define COLUMN_AREA 4096
+#define INDEX_AREA 40960
+
+/* No index has more entries. */
+#define INDEX_ENTRIES 16385
+
+/* So many entries behind an index are lent with it at times. */
+#define BEHIND 16
+
+/* Numbers of refusals that only an index brings. */
+#define INDEX_TOO_SHORT 29
+#define INDEX_NOT_AS_BUILT 30
 
 /* Guard pages are larger than all a check may read or write. */
 #define GUARD 65536
@@ -36,12 +47,30 @@ static size_t book_bytes;
 static struct justification_admission expected_book;
 static uint8_t sizes_due[JUSTIFICATION_SIZES];
 static size_t sizes_count;
+static struct justification_verdict expected_index;
+static uint16_t index_due[INDEX_ENTRIES + BEHIND];
+static size_t index_count;
+
+/* Entries between two guards. */
+struct area {
+    uint16_t *entries;
+    size_t count;
+};
 
 static uint8_t *file_area;
-static uint16_t *room_area;
 static uint8_t *column_area;
 static uint8_t *no_access;
+static struct area room_area;
+/* A short index has the short area, which is soon filled and compared. */
+static struct area short_area, long_area;
+static uint8_t *lent_area;
+/* What an area is filled with where entries lie at its start, and where at its end. */
+static uint8_t patterns[2][INDEX_AREA];
 static unsigned long files, calls;
+
+/* The index through which a file is checked; none for a check without. */
+static const uint16_t *lent_index;
+static size_t lent_entries;
 
 static void fail(const char *what)
 {
@@ -93,14 +122,48 @@ static void *guarded(size_t bytes)
     return area + GUARD;
 }
 
-/* Bytes at the end of the file's area or at the start, for reading only. */
+static struct area guarded_entries(size_t bytes)
+{
+    struct area area;
+    area.entries = guarded(bytes);
+    area.count = bytes / 2;
+    return area;
+}
+
+/* Bytes at the end of an area or at its start, for reading only. */
+static void *place_in(uint8_t *area, size_t area_bytes, const void *bytes, size_t count, int at_end)
+{
+    uint8_t *placed = area + (at_end ? area_bytes - count : 0);
+    protect(area, area_bytes, PROT_READ | PROT_WRITE);
+    memcpy(placed, bytes, count);
+    protect(area, area_bytes, PROT_READ);
+    return placed;
+}
+
+/* A file or a book. */
 static const uint8_t *place(const uint8_t *bytes, size_t count, int at_end)
 {
-    uint8_t *placed = file_area + (at_end ? FILE_AREA - count : 0);
-    protect(file_area, FILE_AREA, PROT_READ | PROT_WRITE);
-    memcpy(placed, bytes, count);
-    protect(file_area, FILE_AREA, PROT_READ);
-    return placed;
+    return place_in(file_area, FILE_AREA, bytes, count, at_end);
+}
+
+/* So many entries at the end of an area or at its start. The whole area is filled before a call. */
+static uint16_t *fill(struct area area, size_t entries, int at_end)
+{
+    memcpy(area.entries, patterns[at_end], 2 * area.count);
+    return area.entries + (at_end ? area.count - entries : 0);
+}
+
+/* The area has to be as it was filled but for these entries from here on. */
+static void compare(struct area area, int at_end, const uint16_t *from, const uint16_t *due,
+                    size_t written, const char *otherwise)
+{
+    size_t before = (size_t)(from - area.entries);
+    size_t behind = area.count - before - written;
+    if (memcmp(area.entries, patterns[at_end], 2 * before) != 0 ||
+        memcmp(from, due, 2 * written) != 0 ||
+        memcmp(from + written, patterns[at_end], 2 * behind) != 0) {
+        fail(otherwise);
+    }
 }
 
 static int same(struct justification_verdict a, struct justification_verdict b)
@@ -108,43 +171,46 @@ static int same(struct justification_verdict a, struct justification_verdict b)
     return a.kind == b.kind && a.first == b.first && a.second == b.second;
 }
 
+/* The verdict, through the index that is lent, if any. */
+static struct justification_verdict answer(const uint8_t *file, uint16_t *room, size_t entries)
+{
+    calls++;
+    if (lent_index == NULL) {
+        return justification_check(file, content_bytes, room, entries);
+    }
+    return justification_check_indexed(file, content_bytes, lent_index, lent_entries, room, entries);
+}
+
 /* The verdict has to be this one, and the room's area as before but for so many entries. */
 static void check(const uint8_t *file, int at_end, size_t entries,
                   struct justification_verdict due, size_t written)
 {
-    uint16_t *room = room_area + (at_end ? ROOM_ENTRIES - entries : 0);
-    uint16_t pattern = at_end ? 0xA5A5 : 0x5A5A;
-    size_t first = (size_t)(room - room_area);
-    size_t i;
-    for (i = 0; i < ROOM_ENTRIES; i++) {
-        room_area[i] = pattern;
-    }
-    calls++;
-    if (!same(justification_check(file, content_bytes, room, entries), due)) {
+    uint16_t *room = fill(room_area, entries, at_end);
+    if (!same(answer(file, room, entries), due)) {
         fail("another verdict than the separate checker's");
     }
-    for (i = 0; i < ROOM_ENTRIES; i++) {
-        int in_list = first <= i && i < first + written;
-        if (room_area[i] != (in_list ? listed[i - first] : pattern)) {
-            fail("another room than the separate checker's");
-        }
-    }
+    compare(room_area, at_end, room, listed, written, "another room than the separate checker's");
 }
 
 /* Only a pass touches the room: any other verdict comes with one that nobody may touch. */
-static void check_untouched(const uint8_t *file)
+static void check_untouched(const uint8_t *file, struct justification_verdict due)
 {
     uint16_t *room = (uint16_t *)(void *)no_access;
-    calls++;
-    if (!same(justification_check(file, content_bytes, room, JUSTIFICATION_ROOM), expected)) {
+    if (!same(answer(file, room, JUSTIFICATION_ROOM), due)) {
         fail("another verdict with a room that may not be touched");
     }
+}
+
+/* Whether checks 1 to 9 let the file pass. */
+static int admitted(void)
+{
+    return expected.kind != JUSTIFICATION_REFUSED || expected.first > JUSTIFICATION_BAD_AUDIT;
 }
 
 static void check_admission(const uint8_t *file)
 {
     struct justification_admission found = justification_admit(file, content_bytes);
-    int bad = expected.kind == JUSTIFICATION_REFUSED && expected.first <= JUSTIFICATION_BAD_AUDIT;
+    int bad = !admitted();
     calls++;
     if (found.number != (bad ? expected.first : 0) || found.place != (bad ? expected.second : 0)) {
         fail("another admission");
@@ -155,10 +221,9 @@ static void check_rooms(const uint8_t *file, int at_end)
 {
     struct justification_verdict short_room = {JUSTIFICATION_REFUSED, JUSTIFICATION_ROOM_TOO_SHORT, 0};
     check(file, at_end, JUSTIFICATION_ROOM, expected, listed_count);
-    check_admission(file);
     if (expected.kind != JUSTIFICATION_PASSED) {
         check(file, at_end, 0, expected, 0);
-        check_untouched(file);
+        check_untouched(file, expected);
         return;
     }
     check(file, at_end, listed_count, expected, listed_count);
@@ -167,6 +232,114 @@ static void check_rooms(const uint8_t *file, int at_end)
         check(file, at_end, listed_count - 1, short_room, 0);
         check(file, at_end, 0, short_room, 0);
     }
+}
+
+/* The answer has to be this one, and the index room's area as before but for so many entries. There
+** may be more entries behind the room's, which nobody may touch. */
+static void build(const uint8_t *file, int at_end, size_t entries, size_t more,
+                  struct justification_verdict due, size_t written)
+{
+    struct area area = entries + BEHIND > short_area.count ? long_area : short_area;
+    uint16_t *room = fill(area, entries, at_end);
+    calls++;
+    if (!same(justification_index(file, content_bytes, room, entries + more), due)) {
+        fail("another answer to building than the separate checker's");
+    }
+    compare(area, at_end, room, index_due, written, "another index than the separate checker's");
+}
+
+/* A refusal touches no entry. */
+static void build_untouched(const uint8_t *file, size_t entries, struct justification_verdict due)
+{
+    uint16_t *room = (uint16_t *)(void *)no_access;
+    calls++;
+    if (!same(justification_index(file, content_bytes, room, entries), due)) {
+        fail("another answer with an index room that may not be touched");
+    }
+}
+
+static void check_building(const uint8_t *file, int at_end)
+{
+    struct justification_verdict short_room = {JUSTIFICATION_REFUSED, INDEX_TOO_SHORT, 0};
+    if (expected_index.kind == JUSTIFICATION_REFUSED) {
+        build(file, at_end, BEHIND, 0, expected_index, 0);
+        build(file, at_end, 0, 0, expected_index, 0);
+        build_untouched(file, INDEX_ENTRIES, expected_index);
+        return;
+    }
+    build(file, at_end, index_count + BEHIND, 0, expected_index, index_count);
+    build(file, at_end, index_count, 0, expected_index, index_count);
+    if (at_end) {
+        build(file, at_end, index_count, BEHIND, expected_index, index_count);
+    }
+    short_room.second = (uint16_t)index_count;
+    build(file, at_end, index_count - 1, 0, short_room, 0);
+    build(file, at_end, 0, 0, short_room, 0);
+    build_untouched(file, index_count - 1, short_room);
+}
+
+/* Lends these entries, for reading only. */
+static void lend(const uint16_t *entries, size_t count, int at_end)
+{
+    lent_index = place_in(lent_area, INDEX_AREA, entries, 2 * count, at_end);
+    lent_entries = count;
+}
+
+/* Through an index that is not as built an admitted file is refused. */
+static void check_refused(const uint8_t *file, int at_end)
+{
+    struct justification_verdict not_as_built = {JUSTIFICATION_REFUSED, INDEX_NOT_AS_BUILT, 0};
+    struct justification_verdict due = admitted() ? not_as_built : expected;
+    check(file, at_end, JUSTIFICATION_ROOM, due, 0);
+    check(file, at_end, 0, due, 0);
+    check_untouched(file, due);
+}
+
+/* The index is lent with this entry changed. */
+static void check_changed(const uint8_t *file, int at_end, size_t entry)
+{
+    index_due[entry]++;
+    lend(index_due, index_count, at_end);
+    index_due[entry]--;
+    check_refused(file, at_end);
+}
+
+/* Through the index as built, with other entries behind it, and with ones that nobody may touch. */
+static void check_as_built(const uint8_t *file, int at_end)
+{
+    size_t i;
+    lend(index_due, index_count, at_end);
+    check_rooms(file, at_end);
+    if (at_end) {
+        lent_entries += BEHIND;
+        check_rooms(file, at_end);
+    }
+    for (i = 0; i < BEHIND; i++) {
+        index_due[index_count + i] = (uint16_t)(0xFFFF - i);
+    }
+    lend(index_due, index_count + BEHIND, at_end);
+    check(file, at_end, JUSTIFICATION_ROOM, expected, listed_count);
+}
+
+/* Checks through an index. A file that has none is lent one of no entries, and any entries. */
+static void check_through(const uint8_t *file, int at_end)
+{
+    if (expected_index.kind == JUSTIFICATION_REFUSED) {
+        lend(listed, 0, at_end);
+        check_rooms(file, at_end);
+        lend(listed, BEHIND, at_end);
+        check_rooms(file, at_end);
+    } else {
+        check_as_built(file, at_end);
+        check_changed(file, at_end, 0);
+        check_changed(file, at_end, index_count / 2);
+        check_changed(file, at_end, index_count - 1);
+        lend(index_due, index_count - 1, at_end);
+        check_refused(file, at_end);
+        lend(index_due, 0, at_end);
+        check_refused(file, at_end);
+    }
+    lent_index = NULL;
 }
 
 static void check_book(const uint8_t *placed, uint8_t *sizes)
@@ -248,6 +421,21 @@ static void read_book_record(void)
     }
 }
 
+static void read_index_record(void)
+{
+    size_t i;
+    expected_index.kind = read_number();
+    expected_index.first = read_number();
+    expected_index.second = read_number();
+    index_count = expected_index.kind == JUSTIFICATION_PASSED ? expected_index.first : 0;
+    if (index_count > INDEX_ENTRIES) {
+        fail("an index longer than any");
+    }
+    for (i = 0; i < index_count; i++) {
+        index_due[i] = read_number();
+    }
+}
+
 /* Reads a record, if there is one more. */
 static int read_record(void)
 {
@@ -259,19 +447,34 @@ static int read_record(void)
     files++;
     read_file_record();
     read_book_record();
+    read_index_record();
     return 1;
+}
+
+static void check_record(int at_end)
+{
+    const uint8_t *file = place(content, content_bytes, at_end);
+    check_rooms(file, at_end);
+    check_admission(file);
+    check_building(file, at_end);
+    check_through(file, at_end);
 }
 
 int main(void)
 {
     catch_faults();
+    memset(patterns[0], 0x5A, INDEX_AREA);
+    memset(patterns[1], 0xA5, INDEX_AREA);
     file_area = guarded(FILE_AREA);
-    room_area = guarded(ROOM_AREA);
+    room_area = guarded_entries(ROOM_AREA);
+    short_area = guarded_entries(ROOM_AREA);
+    long_area = guarded_entries(INDEX_AREA);
+    lent_area = guarded(INDEX_AREA);
     column_area = guarded(COLUMN_AREA);
     no_access = (uint8_t *)guarded(ROOM_AREA) - GUARD;
     while (read_record()) {
-        check_rooms(place(content, content_bytes, 1), 1);
-        check_rooms(place(content, content_bytes, 0), 0);
+        check_record(1);
+        check_record(0);
         check_sizes(1);
         check_sizes(0);
     }

@@ -323,6 +323,6 @@ impl CaseFile {
 }
 
 /// Numbers as the file has them, low byte first.
-fn bytes(numbers: impl IntoIterator<Item = u16>) -> Vec<u8> {
+pub fn bytes(numbers: impl IntoIterator<Item = u16>) -> Vec<u8> {
     numbers.into_iter().flat_map(u16::to_le_bytes).collect()
 }

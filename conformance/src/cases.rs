@@ -1,13 +1,15 @@
-//! Document 01's examples: the rows of its table, and the desk cases; and examples of the numbers
-//! that change requests 1 to 3 of document 02 bring.
+//! Document 01's examples: the rows of its table, and the desk cases; examples of the numbers that
+//! change requests 1 to 3 of document 02 bring; and a log that several agents observe, for the index
+//! of request 5.
 
-use std::fs;
+use std::fs::{self, DirEntry};
+use std::io;
 use std::path::Path;
 
 use crate::builder::*;
 use crate::checker::{Verdict, ABSENT};
 use crate::misfits::misfits;
-use crate::vectors::{read, Vector};
+use crate::vectors::{read, read_buildings, read_throughs, Building, Through, Vector};
 
 /// The entries the program lends.
 pub const ROOM: usize = 1_088;
@@ -21,6 +23,7 @@ pub fn examples() -> Vec<Vector> {
     all.extend(misfits_at_the_desk());
     all.extend(data_variables_at_the_desk());
     all.extend(refinements_at_the_desk());
+    all.push(passed("Shared log", shared_log(), &[], &[1]));
     all
 }
 
@@ -168,6 +171,24 @@ fn granted(created: CaseFile, policy: &'static str) -> CaseFile {
         .row("0 creates", &[0])
         .step(SEEN, "0 owns", 0, &[])
         .step(OWNER, "0 says", ABSENT, &[0])
+}
+
+/// Grant over a log that several agents observe. Agent 0 does not see row 0, and nobody row 3; row 2
+/// is struck out.
+fn shared_log() -> CaseFile {
+    let case = grant()
+        .formula("2 creates", creates(2, data(1)))
+        .formula("1 reports", user_action(3, &[1]))
+        .change(|case| case.rows.clear())
+        .row("2 creates", &[2, 3])
+        .row("0 creates", &[0, 16_383])
+        .row("1 reports", &[0, 3])
+        .row("1 reports", &[])
+        .row("0 communicates", &[0, 1, 16_383]);
+    case.change(|case| {
+        case.rows[2].action = ABSENT;
+        case.steps[0].argument = 1;
+    })
 }
 
 /// Agent 1 uses data 0 under a condition.
@@ -427,19 +448,44 @@ pub fn passed(name: &str, case: CaseFile, obligations: &[u16], rows: &[u16]) -> 
     Vector { written: [obligations, rows].concat(), ..vector(name, case, verdict) }
 }
 
-/// The vectors of each file of `vectors/`, with the file's name.
+/// The files of `vectors/` have these names; every other one has vectors of plain checks.
+const BUILDINGS: &str = "index-";
+const THROUGHS: &str = "through-";
+
+/// The vectors of each file of plain checks in `vectors/`, with the file's name.
 pub fn vector_files() -> Vec<(String, Vec<Vector>)> {
+    files_of(|name| !name.starts_with(BUILDINGS) && !name.starts_with(THROUGHS), read)
+}
+
+/// The vectors of building an index.
+pub fn building_vectors() -> Vec<Building> {
+    let files = files_of(|name| name.starts_with(BUILDINGS), read_buildings);
+    files.into_iter().flat_map(|(_, vectors)| vectors).collect()
+}
+
+/// The vectors of checks through an index.
+pub fn through_vectors() -> Vec<Through> {
+    let files = files_of(|name| name.starts_with(THROUGHS), read_throughs);
+    files.into_iter().flat_map(|(_, vectors)| vectors).collect()
+}
+
+/// What the files of `vectors/` with such a name hold.
+fn files_of<T>(
+    wanted: fn(&str) -> bool,
+    read: fn(&str) -> Option<Vec<T>>,
+) -> Vec<(String, Vec<T>)> {
     let folder = Path::new(env!("CARGO_MANIFEST_DIR")).join("vectors");
-    let entries = fs::read_dir(folder).expect("the vectors are there");
-    let mut paths: Vec<_> = entries.map(|entry| entry.expect("it is listed").path()).collect();
-    paths.sort();
-    let vectors = paths.into_iter().map(|path| {
-        let text = fs::read_to_string(&path).expect("it is text");
-        let name = path.display().to_string();
+    let entries = fs::read_dir(&folder).expect("the vectors are there");
+    let name = |entry: io::Result<DirEntry>| entry.expect("it is listed").file_name().into_string();
+    let names = entries.map(|entry| name(entry).expect("its name is text"));
+    let mut names: Vec<String> = names.filter(|name| wanted(name)).collect();
+    names.sort();
+    let vectors = |name: String| {
+        let text = fs::read_to_string(folder.join(&name)).expect("it is text");
         let vectors = read(&text).unwrap_or_else(|| panic!("a line of {name} is no vector"));
         (name, vectors)
-    });
-    vectors.collect()
+    };
+    names.into_iter().map(vectors).collect()
 }
 
 /// The examples, a case for each misfit, and the vectors.

@@ -1,18 +1,22 @@
-//! The case files of `examples/`: document 01's desk cases, what the requests of document 02 bring,
-//! as the desk meets it, and the worked examples of the two papers. A vector's name is its file's.
+//! The files of `examples/`. Cases: document 01's desk cases, what the requests of document 02 bring,
+//! as the desk meets it, and the worked examples of the two papers; a vector's name is its file's.
+//! And indexes by observer, for some of these cases.
 
 use std::fs;
 use std::io;
 use std::path::{Path, PathBuf};
 
+use crate::builder::bytes;
 use crate::cases;
+use crate::checker::Verdict;
+use crate::indexes::{laid_out, Lists, NOT_AS_BUILT};
 use crate::output::printed;
 use crate::papers;
 use crate::vectors::Vector;
 
 /// Each desk case's file, and its name among the examples. Row 23 needs a short room, which no
 /// program lends: the tests have it.
-const DESK: [(&str, &str); 30] = [
+const DESK: [(&str, &str); 31] = [
     ("grant", "Grant"),
     ("grant-no-steps", "row 10: Grant, no steps, no premises"),
     ("grant-other-agent", "row 11: Grant, agent 1"),
@@ -43,6 +47,7 @@ const DESK: [(&str, &str); 30] = [
     ("grant-refined-by-row", "28: Grant, refined by a log row"),
     ("grant-refined-by-duty", "28: Grant, refined by a duty done"),
     ("grant-refined-by-supposing", "28: Grant, refined by supposing"),
+    ("shared-log", "Shared log"),
 ];
 
 pub fn all() -> Vec<Vector> {
@@ -57,6 +62,42 @@ pub fn all() -> Vec<Vector> {
     all
 }
 
+/// The case of this name.
+pub fn example(name: &str) -> Vector {
+    let found = all().into_iter().find(|example| example.name == name);
+    found.unwrap_or_else(|| panic!("no example is named {name}"))
+}
+
+/// An index of `examples/`.
+pub struct Index {
+    pub name: &'static str,
+    /// The case that is checked through it.
+    pub case: &'static str,
+    pub entries: Vec<u16>,
+    /// The verdict of that check.
+    pub verdict: Verdict,
+}
+
+/// Agents and the rows that they observe in the shared log.
+fn shared_lists() -> Lists {
+    vec![(0, vec![1, 2, 4]), (1, vec![4]), (2, vec![0]), (3, vec![0, 2]), (16_383, vec![1, 4])]
+}
+
+pub fn indexes() -> Vec<Index> {
+    let index = |name, case, lists: &Lists, verdict| {
+        let entries = laid_out(lists);
+        Index { name, case, entries, verdict }
+    };
+    let passed = Verdict::Passed { obligations: 0, rows: 1 };
+    let mut row_too_many = shared_lists();
+    row_too_many[0].1.insert(0, 0);
+    vec![
+        index("grant", "grant", &vec![(0, vec![0])], passed),
+        index("shared-log", "shared-log", &shared_lists(), passed),
+        index("shared-log-row-too-many", "shared-log", &row_too_many, NOT_AS_BUILT),
+    ]
+}
+
 /// The folder, beside this package.
 pub fn folder() -> PathBuf {
     Path::new(env!("CARGO_MANIFEST_DIR")).join("../examples")
@@ -67,11 +108,20 @@ pub fn output(example: &Vector) -> String {
     printed(example.file.len(), example.verdict, &example.written)
 }
 
-/// Writes each example as `NAME.case`, and what the program prints as `NAME.out`.
-pub fn write() -> io::Result<()> {
+/// Every file with its name: each example as `NAME.case`, what the program prints as `NAME.out`, and
+/// each index as `NAME.index`.
+pub fn files() -> Vec<(String, Vec<u8>)> {
+    let mut files = Vec::new();
     for example in all() {
-        fs::write(folder().join(format!("{}.case", example.name)), &example.file)?;
-        fs::write(folder().join(format!("{}.out", example.name)), output(&example))?;
+        let printed = output(&example).into_bytes();
+        files.push((format!("{}.case", example.name), example.file));
+        files.push((format!("{}.out", example.name), printed));
     }
-    Ok(())
+    let index = |index: Index| (format!("{}.index", index.name), bytes(index.entries));
+    files.extend(indexes().into_iter().map(index));
+    files
+}
+
+pub fn write() -> io::Result<()> {
+    files().into_iter().try_for_each(|(name, content)| fs::write(folder().join(name), content))
 }

@@ -1,7 +1,8 @@
-//! Case files that cost much to check: each brings one check or rule to its worst. And files that
-//! are alike but for their size.
+//! Case files that cost much to check: each brings one check or rule to its worst. Files that are
+//! alike but for their size. And files whose logs cost much to index.
 
 use crate::builder::*;
+use crate::cases::grant;
 use crate::checker::{Term, ABSENT};
 use crate::full_size::full_size;
 use crate::interned::{AGENTS, DATA};
@@ -439,4 +440,36 @@ fn own_for_alls(rounds: &mut Rounds, eighth: u16) -> u16 {
     let outermost = rounds.for_all_round(and, 27);
     rounds.last = rounds.step(LEFT, rounds.p, ABSENT, &[rounds.last]);
     outermost
+}
+
+// ---- Logs for an index ----
+
+/// 1,024 log rows: four observers each, of 64 agents; one observer in all of them; and 4,096
+/// observers in one row each, from all over the agents. Agent 0 observes row 0.
+pub fn index_loads() -> Vec<Load> {
+    let load = |name, observers| Load { name, case: observed(observers) };
+    vec![
+        load("four observers of 64", four_of_64),
+        load("one observer in all rows", |_| vec![0]),
+        load("4,096 observers", four_of_4096),
+    ]
+}
+
+/// Grant, which is agent 0's and cites row 0, with 1,024 log rows that have these observers.
+pub fn observed(observers: fn(u16) -> Vec<u16>) -> CaseFile {
+    grant().change(|case| {
+        let action = case.rows[0].action;
+        let row = |number| LogRow { action, observers: observers(number), span: None };
+        case.rows = (0..1_024).map(row).collect();
+    })
+}
+
+/// Neighbouring rows have other observers, and each agent has 64 rows.
+fn four_of_64(row: u16) -> Vec<u16> {
+    (0..4).map(|k| 16 * k + (row + 5 * k) % 16).collect()
+}
+
+/// No two rows share an observer.
+fn four_of_4096(row: u16) -> Vec<u16> {
+    (0..4).map(|k| 4 * (1_024 * k + row)).collect()
 }

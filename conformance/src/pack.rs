@@ -1,19 +1,20 @@
-//! Case files with what the separate checker says of them and of their books, as records for
-//! `attack/guard.c`, which shares nothing with the proved library's Rust side.
+//! Case files with what the separate checker says of them, of their books and of their logs, as
+//! records for `attack/guard.c`, which shares nothing with the proved library's Rust side.
 
 use crate::cases::{examples_and_vectors, ROOM};
-use crate::checker::{check, size_column, Verdict};
+use crate::checker::{check, size_column, Refusal, Verdict};
 use crate::columns::{answer, book_of};
 use crate::damages::damaged;
 use crate::examples;
+use crate::indexes::due;
 use crate::justifications::{passing, slipping};
-use crate::loads::loads;
+use crate::loads::{index_loads, loads};
 use crate::random::{damage, Random};
 
 /// The examples, the vectors, and the loads.
 pub fn known_files() -> Vec<Vec<u8>> {
     let vectors = examples_and_vectors().into_iter().chain(examples::all());
-    let loads = loads().into_iter().map(|load| load.case.to_bytes());
+    let loads = loads().into_iter().chain(index_loads()).map(|load| load.case.to_bytes());
     vectors.map(|vector| vector.file).chain(loads).collect()
 }
 
@@ -28,9 +29,9 @@ pub fn random_file(random: &mut Random) -> Vec<u8> {
     }
 }
 
-/// A record: the file's, and its book's.
+/// A record: the file's, its book's, and that of its log's index.
 pub fn record(file: &[u8]) -> Vec<u8> {
-    [file_record(file), book_record(book_of(file))].concat()
+    [file_record(file), book_record(book_of(file)), index_record(file)].concat()
 }
 
 /// The file's length, the verdict in three numbers, the entries listed, the file.
@@ -56,4 +57,13 @@ fn book_record(book: &[u8]) -> Vec<u8> {
     let sizes: Vec<u8> = column.into_iter().take_while(|size| *size > 0).collect();
     let words = [book.len() as u16, number, place, sizes.len() as u16];
     words.into_iter().flat_map(u16::to_le_bytes).chain(sizes).chain(book.iter().copied()).collect()
+}
+
+/// The answer of building in three numbers, and the index.
+fn index_record(file: &[u8]) -> Vec<u8> {
+    let (numbers, index) = match due(file) {
+        Ok(index) => ([0, index.len() as u16, 0], index),
+        Err(Refusal { number, place }) => ([2, number, place], Vec::new()),
+    };
+    numbers.into_iter().chain(index).flat_map(u16::to_le_bytes).collect()
 }

@@ -26,6 +26,20 @@ extern "C" {
         entries: usize,
     ) -> VerdictNumbers;
     fn justification_admit(file: *const u8, length: usize) -> RunNumbers;
+    fn justification_index(
+        file: *const u8,
+        length: usize,
+        index: *mut u16,
+        entries: usize,
+    ) -> VerdictNumbers;
+    fn justification_check_indexed(
+        file: *const u8,
+        length: usize,
+        index: *const u16,
+        index_entries: usize,
+        room: *mut u16,
+        entries: usize,
+    ) -> VerdictNumbers;
 }
 
 /// The number and place of the first check that fails, or 0 and 0.
@@ -53,8 +67,13 @@ pub fn size_column(book: &[u8], column: &mut [u8; 1_024]) -> Result<(), Refusal>
 pub fn check(file: &[u8], room: &mut [u16]) -> Verdict {
     // The library reads `length` bytes from the one pointer and writes at most `entries` numbers
     // to the other; a mutable room overlaps nothing.
-    let answer =
-        unsafe { justification_check(file.as_ptr(), file.len(), room.as_mut_ptr(), room.len()) };
+    verdict(unsafe {
+        justification_check(file.as_ptr(), file.len(), room.as_mut_ptr(), room.len())
+    })
+}
+
+/// The kind of a verdict, and its two values.
+fn verdict(answer: VerdictNumbers) -> Verdict {
     match (answer.kind, answer.first, answer.second) {
         (0, obligations, rows) => Verdict::Passed { obligations, rows },
         (1, 0, 0) => Verdict::NoneOwed,
@@ -67,4 +86,33 @@ pub fn check(file: &[u8], room: &mut [u16]) -> Verdict {
 pub fn admit(file: &[u8]) -> Result<(), Refusal> {
     // The library reads `length` bytes from the pointer and writes nothing.
     answer(unsafe { justification_admit(file.as_ptr(), file.len()) })
+}
+
+/// The answer to any bytes as a case file whose log is to be indexed, and the index that is built.
+pub fn build_index(file: &[u8], index: &mut [u16]) -> Result<u16, Refusal> {
+    // The library reads `length` bytes from the one pointer and writes at most `entries` numbers
+    // to the other; a mutable index overlaps nothing.
+    let answer =
+        unsafe { justification_index(file.as_ptr(), file.len(), index.as_mut_ptr(), index.len()) };
+    match (answer.kind, answer.first, answer.second) {
+        (0, entries, 0) => Ok(entries),
+        (2, number, place) => Err(Refusal { number, place }),
+        numbers => panic!("an answer of {numbers:?}"),
+    }
+}
+
+/// The verdict on any bytes as a case file, through any entries as an index.
+pub fn check_indexed(file: &[u8], index: &[u16], room: &mut [u16]) -> Verdict {
+    // The library reads `length` bytes and `index_entries` numbers from the first two pointers and
+    // writes at most `entries` numbers to the third; a mutable room overlaps nothing.
+    verdict(unsafe {
+        justification_check_indexed(
+            file.as_ptr(),
+            file.len(),
+            index.as_ptr(),
+            index.len(),
+            room.as_mut_ptr(),
+            room.len(),
+        )
+    })
 }

@@ -1,6 +1,6 @@
-//! Test vectors: a case file, the room it is lent, and what the checker has to answer.
+//! Test vectors: a case file, what is lent with it, and what the checker has to answer.
 
-use crate::checker::Verdict;
+use crate::checker::{Refusal, Verdict};
 
 /// One example or vector.
 pub struct Vector {
@@ -12,19 +12,48 @@ pub struct Vector {
     pub written: Vec<u16>,
 }
 
+/// One vector of building an index.
+pub struct Building {
+    pub name: String,
+    pub file: Vec<u8>,
+    /// The entries of the index room.
+    pub room: usize,
+    /// The entries of the index, or a refusal.
+    pub answer: Result<u16, Refusal>,
+    /// The index; every later entry of its room is unchanged.
+    pub written: Vec<u16>,
+}
+
+/// One vector of a check through an index that is lent.
+pub struct Through {
+    pub vector: Vector,
+    pub index: Vec<u16>,
+}
+
 /// Reads tab separated lines: name, room entries lent, case file in hex, verdict, entries written.
 /// A file or list of nothing is "-"; lines that begin with "#" are remarks. None if any line is
 /// not so.
 pub fn read(text: &str) -> Option<Vec<Vector>> {
-    let lines = text.lines().filter(|line| !line.starts_with('#'));
-    lines.map(read_line).collect()
+    read_lines(text, read_vector)
 }
 
-fn read_line(line: &str) -> Option<Vector> {
-    let columns: Vec<&str> = line.split('\t').collect();
-    let [name, room, file, verdict, written] = columns[..] else {
-        return None;
-    };
+/// The same for: name, index room entries lent, case file in hex, answer, entries written.
+pub fn read_buildings(text: &str) -> Option<Vec<Building>> {
+    read_lines(text, read_building)
+}
+
+/// The same for: name, room entries lent, case file in hex, index lent, verdict, entries written.
+pub fn read_throughs(text: &str) -> Option<Vec<Through>> {
+    read_lines(text, read_through)
+}
+
+fn read_lines<T>(text: &str, read: fn(&[&str]) -> Option<T>) -> Option<Vec<T>> {
+    let lines = text.lines().filter(|line| !line.starts_with('#'));
+    lines.map(|line| read(&line.split('\t').collect::<Vec<&str>>())).collect()
+}
+
+fn read_vector(columns: &[&str]) -> Option<Vector> {
+    let [name, room, file, verdict, written] = *columns else { return None };
     Some(Vector {
         name: name.to_string(),
         file: read_hex(file)?,
@@ -34,9 +63,31 @@ fn read_line(line: &str) -> Option<Vector> {
     })
 }
 
+fn read_building(columns: &[&str]) -> Option<Building> {
+    let [name, room, file, answer, written] = *columns else { return None };
+    let (answer, written) = (read_answer(answer)?, read_entries(written)?);
+    let entries = answer.unwrap_or(0) as usize;
+    let building = Building {
+        name: name.to_string(),
+        file: read_hex(file)?,
+        room: room.parse().ok()?,
+        answer,
+        written,
+    };
+    (building.written.len() == entries).then_some(building)
+}
+
+fn read_through(columns: &[&str]) -> Option<Through> {
+    let [name, room, file, index, verdict, written] = *columns else { return None };
+    let vector = read_vector(&[name, room, file, verdict, written])?;
+    Some(Through { vector, index: read_entries(index)? })
+}
+
 fn read_hex(text: &str) -> Option<Vec<u8>> {
-    if text == "-" {
-        return Some(Vec::new());
+    match text {
+        "" => return None,
+        "-" => return Some(Vec::new()),
+        _ => (),
     }
     let pairs = text.as_bytes().chunks(2);
     let byte = |pair: &[u8]| {
@@ -58,6 +109,15 @@ fn read_verdict(text: &str) -> Option<Verdict> {
         ["refused", number, place] => {
             Some(Verdict::Refused { number: number.parse().ok()?, place: place.parse().ok()? })
         }
+        _ => None,
+    }
+}
+
+/// "built" and the entries, or "refused" as a verdict is.
+fn read_answer(text: &str) -> Option<Result<u16, Refusal>> {
+    match (text.strip_prefix("built "), read_verdict(text)) {
+        (Some(entries), _) => Some(Ok(entries.parse().ok()?)),
+        (_, Some(Verdict::Refused { number, place })) => Some(Err(Refusal { number, place })),
         _ => None,
     }
 }

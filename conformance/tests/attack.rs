@@ -7,9 +7,11 @@ use std::process::{Command, Output, Stdio};
 use std::sync::Barrier;
 use std::thread;
 
+use conformance::builder::{user_action, CaseFile};
 use conformance::cases::ROOM;
 use conformance::checker;
 use conformance::columns::{self, book_of, lent, Sizer};
+use conformance::indexes::{building, through, Builder, IndexedChecker, MOST_ENTRIES};
 use conformance::pack::{known_files, random_file, record};
 use conformance::proved;
 use conformance::random::Random;
@@ -61,22 +63,50 @@ fn guard_pages() {
     assert!(text.starts_with(&format!("{} files, ", files.len())), "{text}");
 }
 
+/// The file that `attack/faulty.c` knows. Agent 1 owes nothing for what agent 0 has done.
+fn known_to_the_stand_in() -> Vec<u8> {
+    let case = CaseFile::new(1).formula("0 acts", user_action(0, &[0])).audits("0 acts");
+    case.row("0 acts", &[0]).to_bytes()
+}
+
 /// Each fault of `attack/faulty.c` is caught, by a guard page (2) or by what the harness compares
 /// (1); and no fault is none.
 #[test]
 fn guard_pages_catch_faults() {
-    for fault in 0..14 {
+    for fault in 0..37 {
         let define = format!("-DFAULT={fault}");
         let harness = harness(&format!("guard-{fault}"), &[&define, "faulty.c"]);
-        let output = run(&harness, &[vec![0]]);
+        let output = run(&harness, &[vec![0], known_to_the_stand_in()]);
         let status = match fault {
             0 => 0,
-            5 | 7 | 11 | 12 | 13 => 1,
+            5 | 7 | 11..=13 | 17..=20 | 22..=24 | 31..=36 => 1,
             _ => 2,
         };
         assert_eq!(output.status.code(), Some(status), "fault {fault}");
     }
 }
+
+/// What is compared.
+struct Checkers {
+    check: Checker,
+    sizer: Sizer,
+    build: Builder,
+    check_indexed: IndexedChecker,
+}
+
+const SEPARATE: Checkers = Checkers {
+    check: checker::check,
+    sizer: checker::size_column,
+    build: checker::build_index,
+    check_indexed: checker::check_indexed,
+};
+
+const PROVED: Checkers = Checkers {
+    check: proved::check,
+    sizer: proved::size_column,
+    build: proved::build_index,
+    check_indexed: proved::check_indexed,
+};
 
 /// Eight threads start each file at once: in turn all the same file, and each one of its own. The
 /// answers are those of the separate checker.
@@ -85,17 +115,19 @@ fn eight_threads() {
     const THREADS: usize = 8;
     let files: Vec<Vec<u8>> =
         known_files().into_iter().chain(random_files(0xA076_1D64_78BD_642F, 2_000)).collect();
-    let said = |check: Checker, sizer: Sizer, file: &[u8]| {
-        (answer(check, file, ROOM), columns::answer(sizer, book_of(file), lent()))
+    let said = |checkers: &Checkers, file: &[u8]| {
+        let (index, room) = building(checkers.build, file, MOST_ENTRIES);
+        let verdict = through(checkers.check_indexed, file, &room, ROOM);
+        let sizes = columns::answer(checkers.sizer, book_of(file), lent());
+        (answer(checkers.check, file, ROOM), sizes, index, room, verdict)
     };
-    let separate = |file: &Vec<u8>| said(checker::check, checker::size_column, file);
-    let expected: Vec<_> = files.iter().map(separate).collect();
+    let expected: Vec<_> = files.iter().map(|file| said(&SEPARATE, file)).collect();
     let barrier = Barrier::new(THREADS);
     let differing = |thread: usize| {
         let check = |turn: usize| {
             let at = (turn + turn % 2 * thread * 37) % files.len();
             barrier.wait();
-            (said(proved::check, proved::size_column, &files[at]) != expected[at]).then_some(at)
+            (said(&PROVED, &files[at]) != expected[at]).then_some(at)
         };
         (0..files.len()).filter_map(check).collect::<Vec<usize>>()
     };

@@ -7,7 +7,7 @@ use conformance::builder::{data, CaseFile, FormulaRow, LogRow, Step};
 use conformance::cases::{examples_and_vectors, grant, twice, visit};
 use conformance::checker::{admit, ABSENT, HEADER_BYTES, PARTS};
 use conformance::columns::book_of;
-use conformance::desk::words::refusals;
+use conformance::desk::words::check_refusals;
 use conformance::proved;
 use conformance::random::{damage, fitting_book, Random};
 
@@ -63,9 +63,10 @@ fn full() -> CaseFile {
 
 /// The numbers of the header's list up to the admission's last check, by their order there.
 fn admission_refusals() -> BTreeSet<u16> {
-    let last = refusals().iter().position(|refusal| refusal.name == "BAD_AUDIT");
+    let listed: Vec<_> = check_refusals().collect();
+    let last = listed.iter().position(|refusal| refusal.name == "BAD_AUDIT");
     let last = last.expect("the header lists the admission's last check");
-    refusals()[..=last].iter().map(|refusal| refusal.number).collect()
+    listed[..=last].iter().map(|refusal| refusal.number).collect()
 }
 
 #[test]

@@ -72,6 +72,19 @@ fn misfits_in_general() {
     }
 }
 
+/// 29 and 30, which no check of a case by itself gives, have their words too.
+#[test]
+fn words_of_the_index() {
+    let told = [
+        (29, 25, "Entries needed 25: the room for the index is too short."),
+        (30, 0, "The index is not that of this file's log."),
+    ];
+    for (number, place, line) in told {
+        let said = words::words(&grant().to_bytes(), Verdict::Refused { number, place }, &[]);
+        assert_eq!(said, [line]);
+    }
+}
+
 /// At the end of a case refused by 27 stands the formula that it tells, as in the list of formulas,
 /// and no step.
 #[test]

@@ -2,74 +2,22 @@
 
 use std::collections::{BTreeMap, BTreeSet};
 
-use conformance::builder::{CaseFile, LogRow};
+use conformance::builder::LogRow;
 use conformance::cases::grant;
-use conformance::checker::{admit, check, strike_unseen, Verdict, ABSENT};
+use conformance::checker::{check, strike_unseen, Verdict, ABSENT};
 use conformance::columns::{agreed, book_of};
-use conformance::damages::damage_case;
-use conformance::desk::words::{number_of, refusals};
-use conformance::justifications::{citing_hidden_rows, others, passing, slipping};
+use conformance::desk::words::{check_refusals, number_of};
+use conformance::hidden::{is_left_out, random_pair};
 use conformance::proved;
 use conformance::random::Random;
 use conformance::rooms::{answer, PATTERN};
-
-/// The numbers that a log row may have for its action.
-fn row_actions(case: &CaseFile) -> Vec<u16> {
-    let mut numbers = vec![ABSENT];
-    if let Ok(admitted) = admit(&case.to_bytes()) {
-        let book = admitted.book.iter().enumerate();
-        let actions = book.filter(|(_, row)| row.is_action() && row.is_ground());
-        numbers.extend(actions.map(|(number, _)| number as u16));
-    }
-    numbers
-}
-
-/// The case with one or two more rows that the agent does not see, and every span the one due.
-fn with_hidden_rows(case: CaseFile, random: &mut Random) -> CaseFile {
-    let actions = row_actions(&case);
-    case.change(|case| {
-        for _ in 0..=random.below(2) {
-            let action = random.pick(&actions);
-            let observers = others(random, case.agent).into_iter().collect();
-            case.rows.push(LogRow { action, observers, span: None });
-        }
-        case.rows.iter_mut().for_each(|row| row.span = None);
-    })
-}
-
-/// A case that is alike to the agent: unseen rows have any action, and one time in 64 a number
-/// that is none; every row has other observers, the agent among them where it was before.
-fn alike(case: &CaseFile, random: &mut Random) -> CaseFile {
-    let actions = row_actions(case);
-    case.clone().change(|case| {
-        for row in &mut case.rows {
-            let seen = row.observers.contains(&case.agent);
-            let mut observers = others(random, case.agent);
-            if seen {
-                observers.insert(case.agent);
-            } else if random.one_in(64) {
-                row.action = random.below(40) as u16;
-            } else {
-                row.action = random.pick(&actions);
-            }
-            row.observers = observers.into_iter().collect();
-        }
-    })
-}
-
-type Answer = (Verdict, Vec<u16>);
-
-/// Demand 3 leaves out files refused by 1, 2 or 5.
-fn is_left_out(answer: &Answer) -> bool {
-    matches!(answer.0, Verdict::Refused { number: 1 | 2 | 5, .. })
-}
 
 /// The proved checker's one answer to both files and to both struck out, which is the separate
 /// checker's to the first struck out, and one column of sizes for all four; none if either file is
 /// left out.
 fn one_answer(pair: [&[u8]; 2], entries: usize) -> Option<Verdict> {
     let [first, second] = pair.map(|file| answer(proved::check, file, entries));
-    if is_left_out(&first) || is_left_out(&second) {
+    if is_left_out(first.0) || is_left_out(second.0) {
         return None;
     }
     assert_eq!(first, second, "{pair:?}");
@@ -83,19 +31,6 @@ fn one_answer(pair: [&[u8]; 2], entries: usize) -> Option<Verdict> {
     Some(first.0)
 }
 
-/// Passing cases, cases that cite hidden rows, and cases with other slips; every second damaged.
-fn random_case(turn: usize, random: &mut Random) -> CaseFile {
-    let mut case = match turn % 8 {
-        0..=2 => passing(random),
-        3..=5 => citing_hidden_rows(random),
-        _ => slipping(random),
-    };
-    if turn % 2 == 1 {
-        damage_case(&mut case, random);
-    }
-    with_hidden_rows(case, random)
-}
-
 /// 20,000 pairs compared, each with a file that differs in what the agent cannot see.
 #[test]
 fn pairs_alike_to_the_agent() {
@@ -104,8 +39,7 @@ fn pairs_alike_to_the_agent() {
     let mut refused = BTreeMap::new();
     while compared < 20_000 {
         turn += 1;
-        let case = random_case(turn, &mut random);
-        let pair = [case.to_bytes(), alike(&case, &mut random).to_bytes()];
+        let pair = random_pair(turn, &mut random);
         let entries = random.pick(&[0, 1, 3, 40]);
         let Some(verdict) = one_answer([&pair[0], &pair[1]], entries) else { continue };
         compared += 1;
@@ -122,7 +56,7 @@ fn pairs_alike_to_the_agent() {
     let often =
         ["DATA_VARIABLE", "WRONG_PREMISE_KIND", "WRONG_PARTY", "WRONG_INSTANCE", "NO_TAUTOLOGY"];
     assert!(often.map(number_of).iter().all(|number| refused[number] >= 100), "{refused:?}");
-    let listed: BTreeSet<u16> = refusals().iter().map(|refusal| refusal.number).collect();
+    let listed: BTreeSet<u16> = check_refusals().map(|refusal| refusal.number).collect();
     let due = listed.difference(&BTreeSet::from([1, 2, 5])).copied().collect();
     assert_eq!(refused.into_keys().collect::<BTreeSet<u16>>(), due);
 }

@@ -1,13 +1,16 @@
 //! A target of clang's libFuzzer: whatever the bytes, the proved checker says what the separate one
-//! says. `attack/run` builds it; the separate checker's branches guide the search.
+//! says, also of the log's index and through one. `attack/run` builds it; the separate checker's
+//! branches guide the search.
 
 #![no_main]
 
 use std::slice;
 
+use conformance::indexes::{as_built, checked_in_all_rooms};
 use conformance::mutator::mutated;
 use conformance::random::Random;
 use conformance::rooms::agreed_in_all_rooms;
+use conformance::wrong_indexes::random_index;
 
 extern "C" {
     /// libFuzzer's own changes, which know nothing of the layout.
@@ -23,7 +26,16 @@ pub extern "C" fn test_one_input(data: *const u8, length: usize) -> i32 {
         _ => unsafe { slice::from_raw_parts(data, length) },
     };
     agreed_in_all_rooms(file);
+    as_built(file);
+    let (_, index) = random_index(file, &mut Random(seed(file)));
+    checked_in_all_rooms(file, &index);
     0
+}
+
+/// A number that the bytes give, which is not 0: what is wrong with the index comes from it.
+fn seed(file: &[u8]) -> u64 {
+    let mix = |sum: u64, byte: &u8| (sum ^ *byte as u64).wrapping_mul(0x0000_0100_0000_01B3);
+    file.iter().fold(0xCBF2_9CE4_8422_2325, mix) | 1
 }
 
 /// What libFuzzer calls for the next input: one in four it makes by itself.

@@ -1,4 +1,4 @@
-//! Writes the case files of `examples/`, and what the program prints for each.
+//! Writes the files of `examples/`: the cases, what the program prints for each, and the indexes.
 
 fn main() -> std::io::Result<()> {
     conformance::examples::write()

@@ -1,15 +1,17 @@
-//! The plain checker of one case: document 01 from top to bottom, with change requests 1 to 4 of
+//! The plain checker of one case: document 01 from top to bottom, with change requests 1 to 5 of
 //! document 02, one small function for each check and each rule. Here are the answers and the order
 //! of the checks. The checks themselves are in `case_file`, `terms`, `formulas`, `records`, `steps`,
-//! `misfits`, `rules` and `end`, to be read in this order; `striking` is apart from them.
+//! `misfits`, `rules` and `end`, to be read in this order; `index` and `striking` are apart from
+//! them.
 //!
 //! Formulas are read into trees and trees are compared, so nothing here rests on one meaning
-//! having one row number. Words in quotes are document 01's, and those about 24 to 28 and the
-//! column of sizes document 02's.
+//! having one row number. Words in quotes are document 01's, and those about 24 to 30, the column of
+//! sizes and the index document 02's.
 
 mod case_file;
 mod end;
 mod formulas;
+mod index;
 mod misfits;
 mod records;
 mod rules;
@@ -18,9 +20,11 @@ mod striking;
 mod terms;
 
 use std::fmt;
+use std::ops::Range;
 
 pub use case_file::{ABSENT, HEADER_BYTES, MOST_BYTES, PARTS};
 pub use formulas::{admit_book, size_column};
+pub use index::build_index;
 pub use striking::strike_unseen;
 
 pub(crate) use case_file::{check_2, numbers};
@@ -30,6 +34,7 @@ pub(crate) use terms::{Shape, Sort, Term};
 use case_file::check_1;
 use end::{check_20, check_21, check_22, check_23};
 use formulas::Tree;
+use index::check_30;
 use records::{check_10, check_11, check_5, check_6, check_7, check_8, check_9};
 use records::{read_steps, LogRow, Marked, Step};
 use steps::{take_step, Proof};
@@ -78,7 +83,22 @@ fn ensure(holds: bool, number: u16, place: usize) -> Result<(), Refusal> {
 /// The verdict on a case file. On a pass "the room's first entries hold the obligations, the part
 /// after them the log rows"; every other entry, and the room of any other verdict, is unchanged.
 pub fn check(file: &[u8], room: &mut [u16]) -> Verdict {
-    match judge(file, room.len()) {
+    let judged = admit(file).and_then(|case| judge(&case, room.len()));
+    tell(judged, room)
+}
+
+/// The verdict of "a check through" an index: 30 comes "after 9", and then all is as without it.
+pub fn check_indexed(file: &[u8], index: &[u16], room: &mut [u16]) -> Verdict {
+    let judged = admit(file).and_then(|case| {
+        check_30(&case.log, index)?;
+        judge(&case, room.len())
+    });
+    tell(judged, room)
+}
+
+/// The verdict, and what a pass writes to the room. No proof means none owed.
+fn tell(judged: Result<Option<Proof>, Refusal>, room: &mut [u16]) -> Verdict {
+    match judged {
         Err(Refusal { number, place }) => Verdict::Refused { number, place },
         Ok(None) => Verdict::NoneOwed,
         Ok(Some(proof)) => {
@@ -94,17 +114,16 @@ pub fn check(file: &[u8], room: &mut [u16]) -> Verdict {
 }
 
 /// "Order: 1 to 11 by number, lowest place first; then steps in order, each through 12 to 19 by
-/// number; then 20 to 23." In a step 27 and then 24 to 26 come just before 18, and 28 after 19. No
-/// proof means none owed.
-fn judge(file: &[u8], room: usize) -> Result<Option<Proof>, Refusal> {
-    let case = admit(file)?;
+/// number; then 20 to 23." Here are those from 10 on. In a step 27 and then 24 to 26 come just
+/// before 18, and 28 after 19.
+fn judge(case: &Case, room: usize) -> Result<Option<Proof>, Refusal> {
     let owed = owed(&case.action, case.agent);
-    check_10(&case, &owed)?;
-    check_11(&case, &owed)?;
+    check_10(case, &owed)?;
+    check_11(case, &owed)?;
     let Some(owed) = owed else { return Ok(None) };
     let mut proof = Proof::default();
     for _ in &case.steps {
-        take_step(&case, &mut proof)?;
+        take_step(case, &mut proof)?;
     }
     check_20(&proof)?;
     check_21(&proof)?;
@@ -128,11 +147,8 @@ pub struct Case {
 
 /// Checks 1 to 9.
 pub fn admit(file: &[u8]) -> Result<Case, Refusal> {
-    check_1(file)?;
-    let parts = check_2(file)?;
+    let (parts, book, log) = admit_log(file)?;
     let part = |place: usize| &file[parts[place].clone()];
-    let book = admit_book(part(0))?;
-    let log = check_5(part(1), part(2), &book)?;
     let conditions = check_6(part(3), &book)?;
     let obligations = check_7(part(4), &book)?;
     let labels = check_8(part(5), &book)?;
@@ -140,4 +156,17 @@ pub fn admit(file: &[u8]) -> Result<Case, Refusal> {
     let steps = read_steps(part(6));
     let premises = numbers(part(7));
     Ok(Case { agent, action, book, log, conditions, obligations, labels, steps, premises })
+}
+
+/// The bytes of each part, the book, and the log.
+type Log = (Vec<Range<usize>>, Vec<Tree>, Vec<LogRow>);
+
+/// Checks 1 to 5.
+fn admit_log(file: &[u8]) -> Result<Log, Refusal> {
+    check_1(file)?;
+    let parts = check_2(file)?;
+    let part = |place: usize| &file[parts[place].clone()];
+    let book = admit_book(part(0))?;
+    let log = check_5(part(1), part(2), &book)?;
+    Ok((parts, book, log))
 }

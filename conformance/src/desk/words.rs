@@ -42,6 +42,11 @@ pub fn refusals() -> &'static [Meaning] {
     LISTED.get_or_init(|| entries("REFUSAL").map(refusal).collect())
 }
 
+/// The header's list without 29 and 30, which only an index brings.
+pub fn check_refusals() -> impl Iterator<Item = &'static Meaning> + Clone {
+    refusals().iter().filter(|refusal| !matches!(refusal.number, 29 | 30))
+}
+
 /// The header's list of refusals that it tells by the rule.
 pub fn step_faults() -> &'static [StepFault] {
     static LISTED: OnceLock<Vec<StepFault>> = OnceLock::new();

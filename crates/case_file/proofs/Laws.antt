@@ -14,7 +14,7 @@ use Rattle.definition.specs.16-Views.{rowView}
 use Rattle.definition.specs.18-Admission.{checksToLog}
 use Rattle.case_file.specs.AdmissionRuns.{beforeLog}
 use Rattle.case_file.specs.Booked.{Booked}
-use Rattle.case_file.specs.Seen.{SeenAfter, codeView, firstBadRow, rowsAfter}
+use Rattle.case_file.specs.Seen.{SeenUpTo, SeenAfter, codeView, firstBadRow, rowsAfter}
 use Rattle.case_file.proofs.AdmissionBranches.{booked}
 use Rattle.case_file.proofs.SeenTable.{code-view}
 pub use Rattle.case_file.proofs.NamedFormulas.{formula-named, obligation-named, label-named, condition-named, audit-named, shown-named}
@@ -31,8 +31,13 @@ module _ (s : List ℕ) (is : inOrder (checksToLog s) ≡ accepts tt) where
       rw (← then-goes-on (sym (logged-layout s is)), logged-book s is)
       (omega (arith, lowest-none (badLogRow (logOf s) (formulas s)) (rowsIn (logOf s)) 0 (λ j from below. logged-rows s is j (omega arith))))
 
-  pub table-view : (old new : List ℕ) → SeenAfter (beforeLog s) s old new → (k : ℕ) → k < rowsIn (logOf s) → codeView (formulas s) (getD new k 0) ≡ rowView (logOf s) (agentOf s) (formulas s) k
+  pub full-table-view :
+      (old new : List ℕ) → SeenUpTo (logOf s) (agentOf s) (rowsIn (logOf s)) old new → (k : ℕ) → k < rowsIn (logOf s) →
+      codeView (formulas s) (getD new k 0) ≡ rowView (logOf s) (agentOf s) (formulas s) k
   unfolding formulas
-  table-view old new h k below =
-      ap (codeView (formulas s)) (h .low k (rw all-rows-entered below))
+  full-table-view old new h k below =
+      ap (codeView (formulas s)) (h .low k below)
       ∙ code-view (logOf s) (agentOf s) (part s formula-part) k (logged-booked refl .book) below (logged-rows s is k below)
+
+  pub table-view : (old new : List ℕ) → SeenAfter (beforeLog s) s old new → (k : ℕ) → k < rowsIn (logOf s) → codeView (formulas s) (getD new k 0) ≡ rowView (logOf s) (agentOf s) (formulas s) k
+  table-view old new h = full-table-view old new (rw all-rows-entered at h)

@@ -1,7 +1,7 @@
 -- The rows of a log whose formulas checks 3 and 4 let pass: what a row comes to, and the table of what the agent sees. Assumes nothing.
-use Prim.Native.Nat.{ℕ, zero, suc, _+_, _≤_, _<_}
+use Prim.Native.Nat.{ℕ, _+_, _≤_, _<_}
 use mathlib.Core.Path.{_≡_, refl, sym, ap, _∙_}
-use mathlib.Core.Bool.{Bool, true, false, cond, _&&_, _||_, or-true, false≢true, true≢false}
+use mathlib.Core.Bool.{Bool, true, false, cond, _||_, or-true, false≢true, true≢false}
 use mathlib.Core.Logic.{_⊎_, ⊎-elim}
 use mathlib.Core.List.{List}
 use native.Mathlib.Nat.{eq-or-lt-of-le, le-of-suc-le-suc}
@@ -9,7 +9,7 @@ use native.Mathlib.Numerals.{add-one}
 use native.Mathlib.Omega.{arith}
 use lib.ListN.{length, set, length-set}
 use lib.Seq.{getD-set-same, getD-set-other}
-use lib.Dec.{eqb, ltb}
+use lib.Dec.{eqb}
 use borrow.Author.Tests.{lt-ltb, eqb-true, ne-eqb, not-false}
 use Rattle.definition.specs.01-Words.{absent}
 use Rattle.definition.specs.02-Ranges.{any}
@@ -22,13 +22,7 @@ use Rattle.definition.specs.16-Views.{seenIn, viewOf, rowView}
 use Rattle.formula_book.specs.AdmittedBooks.{AdmittedBook}
 use Rattle.case_file.specs.Seen.{hiddenCode, viewCode, codeView, SeenUpTo, ListAnswer, faulty, unseen, seen, listAnswer, RowAnswer, bad, good, rowAnswer}
 use Rattle.definition.proofs.Spans.{span-holds}
-
--- Two tests that agree at each of the numbers.
-any-agrees : (p q : ℕ → Bool) (left i : ℕ) → ((j : ℕ) → i ≤ j → j < i + left → p j ≡ q j) → any p left i ≡ any q left i
-unfolding any
-any-agrees p q zero i h = refl
-any-agrees p q (suc left) i h =
-    rw (h i (omega arith) (omega arith), any-agrees p q left (i + 1) (λ j from to. h j (omega arith) (omega arith)))
+use Rattle.definition.proofs.ViewLaws.{seen-any}
 
 newest : (j k : ℕ) → j < k + 1 → (j ≡ k) ⊎ (j < k)
 newest j k lt = eq-or-lt-of-le (le-of-suc-le-suc (rw (add-one k) at lt))
@@ -70,13 +64,6 @@ module _ (g : Log) (agent : ℕ) (l : List Formula) (k : ℕ) where
   unfolding rowAnswer
   span-bad e = rw (bad-row-is, e, or-true)
 
-  -- the agent sees the row if it is among the observers of its span
-  seen-is : rowFrom g k + rowCount g k ≤ observersIn g → seenIn g agent k ≡ any (λ j. eqb (observer (g .observers) j) agent) (rowCount g k) (rowFrom g k)
-  unfolding seenIn
-  seen-is within =
-      any-agrees (λ j. ltb j (observersIn g) && eqb (observer (g .observers) j) agent) (λ j. eqb (observer (g .observers) j) agent) (rowCount g k) (rowFrom g k)
-      (λ j from below. rw (lt-ltb j (observersIn g) (omega arith)))
-
   -- a row whose action and span are no fault, by the answer of its list
   pub row-listed :
       (action from len : ℕ) → action ≡ rowAction g k → from ≡ rowFrom g k → len ≡ rowCount g k →
@@ -84,7 +71,7 @@ module _ (g : Log) (agent : ℕ) (l : List Formula) (k : ℕ) where
       (a : ListAnswer) → a ≡ listAnswer (g .observers) agent from len → listed a action (from + len) ≡ rowAnswer g agent l k
   unfolding rowAnswer rowList listAnswer viewCode listed
   row-listed action from len act-is from-is len-is act-good span-good a is =
-      rw (is, act-is, from-is, len-is, bad-row-is, act-good, span-good, seen-is (span-within g k span-good))
+      rw (is, act-is, from-is, len-is, bad-row-is, act-good, span-good, seen-any g agent k (span-within g k span-good))
       (go (any (badObserver (g .observers) (rowFrom g k)) (rowCount g k) (rowFrom g k)) (any (λ j. eqb (observer (g .observers) j) agent) (rowCount g k) (rowFrom g k)))
     where
       go :

@@ -8,6 +8,7 @@ pub use admission::admit;
 pub use admission::admit_into;
 pub use admission::admit_log;
 pub use formula_numbers::closed_policy;
+pub use log_checks::HIDDEN;
 pub use log_checks::View;
 pub use log_checks::check_log;
 pub use log_checks::view_at;

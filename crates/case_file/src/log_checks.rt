@@ -44,7 +44,7 @@ pub enum View {
 }
 
 // What the table has for a hidden row. For any other it has the action's number.
-const HIDDEN: u16 = 65534;
+pub const HIDDEN: u16 = 65534;
 
 // Are the `len` observers from `from` on strictly ascending agents, and is the agent among them?
 fn look(observers: &[u8], agent: u16, from: usize, len: usize) -> Listed

@@ -65,7 +65,7 @@ fn check_owing(file: &[u8], book: &[u8]) -> Failure
 }
 
 // What follows the admission: 10 and 11, the steps, and what comes after them. Where 10 and 11 let it pass, something is owed just if there are steps.
-fn check_admitted(file: &[u8], book: &[u8], views: &[u16; 1024], room: &mut [u16]) -> Verdict
+pub fn check_admitted(file: &[u8], book: &[u8], views: &[u16; 1024], room: &mut [u16]) -> Verdict
     requires { ⌜ CaseLent (now file) (now book) (now views) ⌝ }
     ensures { λ r. ⌜ Reported (justifying (caseOf (now (file .entry))) (length (now (room .entry)))) (now (room .entry)) r (now (room .exit)) ⌝ }
 {

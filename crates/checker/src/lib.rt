@@ -5,4 +5,5 @@ mod run;
 mod verdict;
 
 pub use checks::check;
+pub use checks::check_admitted;
 pub use verdict::Verdict;

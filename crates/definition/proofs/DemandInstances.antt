@@ -3,15 +3,19 @@
 use Prim.Native.Nat.{ℕ, zero, suc, _≤_, _<_}
 use mathlib.Core.Bool.{true}
 use mathlib.Core.Logic.{inr, ⊎-elim}
-use mathlib.Core.Path.{_≡_, refl, sym, _∙_}
+use mathlib.Core.Path.{_≡_, refl, sym, ap, _∙_}
 use mathlib.Core.List.{List, [], _∷_}
 use native.Mathlib.Omega.{arith}
-use lib.ListN.{length, getD}
+use lib.ListN.{length, getD, take}
+use lib.Seq.{take-all}
 use lib.Dec.{ltb}
 use borrow.Author.Tests.{ltb-true}
 use Rattle.definition.proofs.AdmissionLaws.{admitted-parted}
 use Rattle.definition.proofs.CheckLaws.{all-hold}
 use Rattle.definition.proofs.CitedLists.{pass-lists}
+use Rattle.definition.proofs.IndexHolds.{index-holds}
+use Rattle.definition.proofs.IndexPromises.{building-refused, index-built, through-exactly, through-as-built, built-is-enough, through-shows-no-row}
+use Rattle.definition.proofs.OrderedLogs.{index-entries}
 use Rattle.definition.proofs.NoneOwed.{none-owed-exactly}
 use Rattle.definition.proofs.PassesExactly.{passes-exactly, refused-for-room}
 use Rattle.definition.proofs.RangeLaws.{all-true}
@@ -24,24 +28,28 @@ use Rattle.definition.proofs.StruckFile.{strikes-unseen}
 use Rattle.definition.specs.01-Words.{absent}
 use Rattle.definition.specs.02-Ranges.{all}
 use Rattle.definition.specs.03-Lists.{joinAll}
-use Rattle.definition.specs.04-Checks.{single, each, Holds, Fails, AllHold, here, later, accepts, refuses}
+use Rattle.definition.specs.04-Checks.{single, each, Holds, Fails, AllHold, here, later, accepts, refuses, inOrder}
 use Rattle.definition.specs.13-Formulas.{Formula, implies, each-use, once, nodes}
 use Rattle.definition.specs.14-Book.{bookRows, treeIn, book, sizeColumn, rowsOf}
-use Rattle.definition.specs.15-Records.{stepFormula}
+use Rattle.definition.specs.15-Records.{Log, logOf, stepFormula}
 use Rattle.definition.specs.17-Case.{caseOf}
-use Rattle.definition.specs.18-Admission.{Parted, admissionChecks, admission}
+use Rattle.definition.specs.18-Admission.{Parted, checksToLog, admissionChecks, admission}
 use Rattle.definition.specs.19-Rewriting.{strike}
 use Rattle.definition.specs.22-Steps.{usedIn, premisesOf, misshapen, badPremises, stepChecks, stateAt}
 use Rattle.definition.specs.31-Outcome.{lastStep, unusedStep, openLabel, owingChecks, finalState, refused, outcome}
+use Rattle.definition.specs.35-Index.{indexOf, building, outcomeThrough}
 use Rattle.definition.specs.42-Account.{Owes}
 use Rattle.definition.specs.44-Demands.{StepsHold, InTable, in-step, in-end, Passes, Justified, Needs, Lists, HeaderOfBytes}
 use Rattle.definition.specs.46-Requests.{StrayTold, RefiningTold, AccountOf, RefinesWithoutLog, SizeHeld, ColumnAfter}
+use Rattle.definition.specs.47-Indexed.{IsIndex, AsBuilt, FileIndexRoom}
 use Rattle.definition.specs.51-Files.{createsRow}
 use Rattle.definition.specs.52-Evaluation.{evaluated}
 use Rattle.definition.specs.53-Desk.{lent, grantWith, grant, visit, twice, built}
+use Rattle.definition.specs.55-HiddenRows.{twoRows, oneWay, otherWay, ways-alike, ways-made}
 use Rattle.definition.specs.56-SeenRows.{fourRows, rows-admitted}
 use Rattle.definition.specs.58-Table.{grantByte, grantAnd, laterPremise, supposedOwed, stray, line, reasoned, refiningBy, refining, tautologyAt, nested, builtTable}
 use Rattle.definition.specs.59-Sizes.{lentColumn, doubled, withLarge, withRepeat, builtSizes}
+use Rattle.definition.specs.60-Indexes.{shared, sharedIndex, indexRoom, builtIndexes}
 
 -- Demand 1: what a refusal by 2, 4, 13, 17, 21 and 23 says.
 pub part-told : InTable (grantByte 4 35) 3 2 0
@@ -227,6 +235,52 @@ sizes-before-bad = tells-sizes (joinAll withLarge) lentColumn _ refl .1 refl
 pub sizes-with-repeat : ColumnAfter (joinAll withRepeat) lentColumn (sizeColumn (joinAll withRepeat) lentColumn) (refuses 4 7)
 unfolding evaluated builtSizes
 sizes-with-repeat = tells-sizes (joinAll withRepeat) lentColumn _ refl .1 refl
+
+-- Request 5: the index of a log of four rows, which has 15 entries; a room that just fits, and one an entry short; a check through it, of its own agent and of one that observes none, and through none.
+pub shared-logged : inOrder (checksToLog (shared 0 4 [] 0)) ≡ accepts tt
+unfolding builtIndexes
+shared-logged = refl
+
+pub shared-entries : length (indexOf (logOf (shared 0 4 [] 0))) ≤ 16385
+shared-entries = index-entries (shared 0 4 [] 0) shared-logged .1
+
+pub shared-holds : IsIndex (logOf (shared 0 4 [] 0)) sharedIndex
+unfolding builtIndexes
+shared-holds = index-holds (logOf (shared 0 4 [] 0)) sharedIndex .1 refl
+
+pub shared-built : take 15 (building (shared 0 4 [] 0) (indexRoom 17) .room) ≡ indexOf (logOf (shared 0 4 [] 0))
+unfolding builtIndexes
+shared-built = index-built (shared 0 4 [] 0) (indexRoom 17) 15 refl .2
+
+pub shared-short : length (indexRoom 14) < 15
+unfolding builtIndexes
+shared-short = building-refused (shared 0 4 [] 0) (indexRoom 14) 29 15 .1 .0 refl .2
+
+pub no-index-refused : AsBuilt (logOf (shared 0 4 [] 0)) [] → ⊥
+unfolding builtIndexes
+no-index-refused = through-exactly (shared 0 4 [] 0) [] lent .0 0 .0 refl .1
+
+pub other-agent-through : outcomeThrough (shared 7 4 [] 0) (building (shared 0 4 [] 0) (indexRoom 17) .room) lent ≡ outcome (shared 7 4 [] 0) lent
+unfolding builtIndexes
+other-agent-through = built-is-enough (shared 0 4 [] 0) (shared 7 4 [] 0) (indexRoom 17) lent 15 refl refl
+
+-- Two files that are alike to the agent and have different indexes: row 1, unseen, is observed by 1 in the one, by 1 and 2 in the other.
+pub other-index : indexOf (logOf (oneWay 0 0)) ≡ indexOf (logOf (otherWay 4 0)) → ⊥
+unfolding built twoRows
+other-index e = let z : _≡_ {A = ℕ} 2 3 = ap (λ (l : List ℕ). getD l 0 0) e in omega (arith, z)
+
+-- A log's own index is as built.
+own-index : (g : Log) → AsBuilt g (indexOf g)
+own-index g = take-all (length (indexOf g)) (indexOf g) (omega arith)
+
+pub alike-through :
+    outcomeThrough (oneWay 0 0) (indexOf (logOf (oneWay 0 0))) lent ≡ outcomeThrough (otherWay 4 0) (indexOf (logOf (otherWay 4 0))) lent
+alike-through =
+    let one : FileIndexRoom = record { file = oneWay 0 0; index = indexOf (logOf (oneWay 0 0)); room = lent } in
+    let other : FileIndexRoom = record { file = otherWay 4 0; index = indexOf (logOf (otherWay 4 0)); room = lent } in
+    through-shows-no-row .0 one other (ways-alike 0 1 0 4 0, own-index (logOf (oneWay 0 0)), own-index (logOf (otherWay 4 0)), refl)
+    (λ w. ways-made .2 (rw (through-as-built (oneWay 0 0) (one .index) lent (own-index (logOf (oneWay 0 0)))) at w))
+    (λ w. ways-made .3 (rw (through-as-built (otherWay 4 0) (other .index) lent (own-index (logOf (otherWay 4 0)))) at w))
 
 -- Demand 3: the header's bytes stay where it is made of bytes, and this one is.
 low-header : all (λ j. ltb (getD (fourRows 0 (absent ∷ [])) j 0) 256) 36 0 ≡ true

@@ -1,5 +1,8 @@
--- The three demands, proved of the definition. Each is stated in specs/44-Demands, but that the place of 27 is by the book alone; that, and what requests promise and leave as it was, in specs/46-Requests. Assumes nothing.
+-- The three demands, proved of the definition. Each is stated in specs/44-Demands, but that the place of 27 is by the book alone; that, and what requests promise and leave as it was, in specs/46-Requests, of request 5 in specs/47-Indexed. Assumes nothing.
 use Rattle.definition.proofs.CitedLists as cited
+use Rattle.definition.proofs.IndexHolds as held
+use Rattle.definition.proofs.IndexPromises as indexed
+use Rattle.definition.proofs.OrderedLogs as ordered
 use Rattle.definition.proofs.MisfitLaws as misfits
 use Rattle.definition.proofs.NoneOwed as none
 use Rattle.definition.proofs.OneNumber.{one-number}
@@ -16,6 +19,7 @@ use Rattle.definition.proofs.StruckFile as struck
 use Rattle.definition.proofs.UnseenRows as unseen
 use Rattle.definition.specs.44-Demands.{RefusalKeepsRoom, NoneOwedKeepsRoom, PassKeepsRest, FirstIsTold, RefusedByTable, StepIsPlace, PassesExactly, RefusedForRoom, NoneOwedExactly, PassLists, EachUseOnce, UnseenRowsAreUnseen, AsIfStruck, StrikesUnseen, OneMeaningOneNumber}
 use Rattle.definition.specs.46-Requests.{NumbersAlone, FitsAsBefore, TellsStray, PlaceByBook, StraysAlone, TellsRefining, RefiningsAlone, HoldsWithoutLog, TellsSizes, SizeIsRows, SizesFit, SizesShowNoRow}
+use Rattle.definition.specs.47-Indexed.{IndexHolds, ListIsSeen, UnseeingHasNone, IndexLength, EntriesFit, BuildingRefused, IndexBuilt, ThroughExactly, ThroughKeepsRoom, LaterNotRead, BuiltIsAsBuilt, BuiltIsEnough, StrikingKeepsIndex, ThroughShowsNoRow}
 
 pub record Demand1 : Type 0 where
   pub refusal-keeps-room : RefusalKeepsRoom
@@ -38,6 +42,7 @@ pub record Demand3 : Type 0 where
   pub strikes-unseen : StrikesUnseen
   pub place-by-book : PlaceByBook
   pub sizes-show-no-row : SizesShowNoRow
+  pub through-shows-no-row : ThroughShowsNoRow
 
 pub record Request1 : Type 0 where
   pub numbers-alone : NumbersAlone
@@ -56,6 +61,21 @@ pub record Request4 : Type 0 where
   pub tells-sizes : TellsSizes
   pub size-is-rows : SizeIsRows
   pub sizes-fit : SizesFit
+
+pub record Request5 : Type 0 where
+  pub index-holds : IndexHolds
+  pub list-is-seen : ListIsSeen
+  pub unseeing-has-none : UnseeingHasNone
+  pub index-length : IndexLength
+  pub entries-fit : EntriesFit
+  pub building-refused : BuildingRefused
+  pub index-built : IndexBuilt
+  pub through-exactly : ThroughExactly
+  pub through-keeps-room : ThroughKeepsRoom
+  pub later-not-read : LaterNotRead
+  pub built-is-as-built : BuiltIsAsBuilt
+  pub built-is-enough : BuiltIsEnough
+  pub striking-keeps-index : StrikingKeepsIndex
 
 pub demand-1 : Demand1
 demand-1 =
@@ -86,6 +106,7 @@ demand-3 =
       strikes-unseen = struck.strikes-unseen;
       place-by-book = strays.place-by-book;
       sizes-show-no-row = sizes.sizes-show-no-row;
+      through-shows-no-row = indexed.through-shows-no-row;
     }
 
 pub one-meaning-one-number : OneMeaningOneNumber
@@ -102,3 +123,21 @@ request-3 = record { holds-without-log = refining.holds-without-log; tells-refin
 
 pub request-4 : Request4
 request-4 = record { tells-sizes = sizes.tells-sizes; size-is-rows = sizes.size-is-rows; sizes-fit = sizes.sizes-fit }
+
+pub request-5 : Request5
+request-5 =
+    record {
+      index-holds = held.index-holds;
+      list-is-seen = held.list-is-seen;
+      unseeing-has-none = held.unseeing-has-none;
+      index-length = ordered.index-entries;
+      entries-fit = ordered.entries-fit;
+      building-refused = indexed.building-refused;
+      index-built = indexed.index-built;
+      through-exactly = indexed.through-exactly;
+      through-keeps-room = indexed.through-keeps-room;
+      later-not-read = indexed.later-not-read;
+      built-is-as-built = indexed.built-is-as-built;
+      built-is-enough = indexed.built-is-enough;
+      striking-keeps-index = indexed.index-struck;
+    }

@@ -3,6 +3,7 @@ pub mod Tests
 pub mod ListLaws
 pub mod Windows
 pub mod RangeLaws
+pub mod TotalLaws
 pub mod CheckLaws
 pub mod TreeEquality
 pub mod Trees
@@ -13,9 +14,13 @@ pub mod PartLaws
 pub mod Rewriting
 pub mod Spans
 pub mod ViewLaws
+pub mod IndexHolds
+pub mod IndexLaws
+pub mod OrderedIndex
 pub mod AlikeFiles
 pub mod StruckFile
 pub mod AdmissionLaws
+pub mod OrderedLogs
 pub mod States
 pub mod StateMarks
 pub mod PremiseLaws
@@ -43,5 +48,6 @@ pub mod TextLaws
 pub mod ReadingLaws
 pub mod UnseenRows
 pub mod PromiseLaws
+pub mod IndexPromises
 pub mod DemandsProved
 pub mod DemandInstances

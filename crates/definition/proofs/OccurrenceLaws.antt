@@ -1,12 +1,14 @@
 -- The tests of a term's class and the walk `has` say what the definition says without tests: what stands in a formula. Assumes nothing.
-use Prim.Native.Nat.{ℕ, _+_, _≤_}
+use Prim.Native.Nat.{ℕ, _+_, _-_, _≤_}
 use mathlib.Core.Path.{_≡_, refl, ap}
-use mathlib.Core.Bool.{true, false, false≢true}
+use mathlib.Core.Bool.{Bool, true, false, cond, false≢true}
 use mathlib.Core.Logic.{_↔_, ⊎-map}
 use native.Mathlib.Omega.{arith}
+use lib.Dec.{eqb, ltb}
 use borrow.Author.Tests.{leb-true, le-leb}
+use Rattle.definition.specs.01-Words.{absent}
 use Rattle.definition.proofs.Tests.{equals-is, or-is, or-is₃, not-is, refutes}
-use Rattle.definition.specs.12-Terms.{Sort, agents, data-objects, sameSort, Class, object, parameter, variable, absent-term, no-term, classOf, isObject, isParameter, isVariable, isFree, isInstance}
+use Rattle.definition.specs.12-Terms.{agentsEnd, Sort, agents, data-objects, sameSort, Class, object, parameter, variable, absent-term, no-term, classOf, isObject, isParameter, isVariable, isFree, isInstance}
 use Rattle.definition.specs.13-Formulas.{Formula, predicate, owns, says, and, for-all, implies, after, communicates, creates, user-action, no-formula, Sought, this-term, data-variable, free-variable, isSought, has, closed, isPolicy}
 use Rattle.definition.specs.41-Occurrences.{Somewhere, Mentions, FreeVariable, Closed, DataVariable, MentionsDataVariable, Instance, Policy}
 
@@ -26,6 +28,24 @@ object-class σ (parameter τ) = (λ e. cc, λ e. cc)
 object-class σ (variable τ n) = (λ e. cc, λ e. cc)
 object-class σ absent-term = (λ e. cc, λ e. cc)
 object-class σ no-term = (λ e. cc, λ e. cc)
+
+-- The agents are the numbers below that.
+pub agent-is : (t : ℕ) → isObject agents (classOf t) ≡ ltb t agentsEnd
+unfolding classOf isObject sameSort
+agent-is t = go (ltb t agentsEnd) (ltb t 32768) (ltb t 32800) (ltb t 32832) (ltb t 40960) (ltb t 40968) (ltb t 40976) (eqb t absent)
+  where
+    go :
+        (a b c d e f g h : Bool) →
+        isObject agents (cond a (object agents) (cond b (object data-objects) (cond c (parameter agents) (cond d (parameter data-objects) (cond e no-term (cond f (variable agents (t - 40960)) (cond g (variable data-objects (t - 40968)) (cond h absent-term no-term)))))))) ≡ a
+    go true b c d e f g h = refl
+    go false true c d e f g h = refl
+    go false false true d e f g h = refl
+    go false false false true e f g h = refl
+    go false false false false true f g h = refl
+    go false false false false false true g h = refl
+    go false false false false false false true h = refl
+    go false false false false false false false true = refl
+    go false false false false false false false false = refl
 
 pub parameter-class : (σ : Sort) (c : Class) → (isParameter σ c ≡ true) ↔ (c ≡ parameter σ)
 unfolding isParameter

@@ -145,6 +145,13 @@ module _ (p : ℕ → Bool) where
       go true e rest = rw e (omega arith)
       go false e rest = rw e (omega arith)
 
+-- Two tests that agree at each of the numbers.
+pub any-agrees : (p q : ℕ → Bool) (left i : ℕ) → ((j : ℕ) → i ≤ j → j < i + left → p j ≡ q j) → any p left i ≡ any q left i
+unfolding any
+any-agrees p q zero i h = refl
+any-agrees p q (suc left) i h =
+    rw (h i (omega arith) (omega arith), any-agrees p q left (i + 1) (λ j from to. h j (omega arith) (omega arith)))
+
 -- A proof of P at each of the numbers, as a tuple; and the one at a number.
 abbrev pub Each : (ℕ → Type 0) → (left i : ℕ) → Type 0
 Each P zero i = Unit {0}
@@ -166,6 +173,25 @@ unfolding listed
 listed-at f d zero i p h = absurd (omega arith)
 listed-at f d (suc n) i zero h = let e : i + 0 ≡ i = omega arith in rw e
 listed-at f d (suc n) i (suc p) h = let e : i + suc p ≡ i + 1 + p = omega arith in rw e (listed-at f d n (i + 1) p (omega arith))
+
+pub listed-among : (f : ℕ → ℕ) (n i x : ℕ) → Among x (listed f n i) ↔ ((j : ℕ) × (i ≤ j) × (j < i + n) × (f j ≡ x))
+unfolding listed
+listed-among f zero i x = (λ a. absurd a, λ w. absurd (omega (arith, w .1, w .2)))
+listed-among f (suc n) i x = (
+  ⊎-elim (λ q. (i, omega arith, omega arith, sym q)) (λ a. let w = listed-among f n (i + 1) x .0 a in (w .0, omega (arith, w .1), omega (arith, w .2), w .3)),
+  λ w.
+      ⊎-elim (λ q. inl (sym (ap f q ∙ w .3))) (λ up. inr (listed-among f n (i + 1) x .1 (w .0, omega arith, omega (arith, w .2), w .3)))
+      (eq-or-lt-of-le (w .1)),
+)
+
+-- A list of a table's values ascends where the table does.
+pub listed-ascends : (f : ℕ → ℕ) (n i : ℕ) → ((j k : ℕ) → i ≤ j → j < k → k < i + n → f j < f k) → Ascending (listed f n i)
+unfolding listed
+listed-ascends f zero i up = tt
+listed-ascends f (suc n) i up = (
+  λ y a. let w = listed-among f n (i + 1) y .0 a in rw (← w .3) (up i (w .0) (omega arith) (omega (arith, w .1)) (omega (arith, w .2))),
+  listed-ascends f n (i + 1) (λ j k from lt to. up j k (omega arith) lt (omega arith)),
+)
 
 -- the lowest at which a test holds, where it does
 pub lowest-here : (p : ℕ → Bool) (n j : ℕ) → j < n → p j ≡ true → (lowest p n 0 < n) × (p (lowest p n 0) ≡ true) × ((q : ℕ) → q < lowest p n 0 → p q ≡ false)

@@ -1,6 +1,6 @@
 -- The log with every unseen row struck out is alike to the agent: only the action bytes of unseen rows change, which are in no field that says who sees a row.
 -- Check 5 finds no fault in it that it did not find before: a struck row's action is absent. And the file with this log is alike to the agent. Assumes nothing.
-use Prim.Native.Nat.{ℕ, zero, suc, _+_, _*_, _-_, _/_, _%_, _≤_, _<_}
+use Prim.Native.Nat.{ℕ, zero, suc, _+_, _*_, _/_, _%_, _≤_, _<_}
 use mathlib.Core.Bool.{Bool, true, false, cond, _||_, and-false, false≢true}
 use mathlib.Core.Path.{_≡_, refl, sym, ap, fun-ext, _∙_}
 use mathlib.Core.Logic.{_⊎_, inl, inr, ⊎-elim}
@@ -76,25 +76,25 @@ module _ (g : Log) (agent : ℕ) where
   unfolding fieldIn word recordBytes
   same-span k i l h = rw (kept (6 * k + i) (no-action (6 * k + i) (omega arith)), kept (6 * k + i + 1) (no-action (6 * k + i + 1) (omega arith)))
 
-  same-from : rowFrom struck ≡ rowFrom g
+  pub same-from : rowFrom struck ≡ rowFrom g
   unfolding rowFrom
   same-from = fun-ext λ k. same-span k 2 (omega arith) (omega arith)
 
-  same-count : rowCount struck ≡ rowCount g
+  pub same-count : rowCount struck ≡ rowCount g
   unfolding rowCount
   same-count = fun-ext λ k. same-span k 4 (omega arith) (omega arith)
 
-  same-rows : rowsIn struck ≡ rowsIn g
+  pub same-rows : rowsIn struck ≡ rowsIn g
   unfolding rowsIn recordsIn
   same-rows = rw same-length
 
-  same-observers : struck .observers ≡ g .observers
+  pub same-observers : struck .observers ≡ g .observers
   unfolding strikeLog
   same-observers = refl
 
-  same-seen : (k : ℕ) → seenIn struck agent k ≡ seenIn g agent k
+  pub same-seen : (a k : ℕ) → seenIn struck a k ≡ seenIn g a k
   unfolding seenIn observersIn
-  same-seen k = rw (same-from, same-count, same-observers)
+  same-seen a k = rw (same-from, same-count, same-observers)
 
   seen-action : (k : ℕ) → seenIn g agent k ≡ true → rowAction struck k ≡ rowAction g k
   unfolding rowAction fieldIn word recordBytes

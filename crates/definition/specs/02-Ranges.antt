@@ -29,11 +29,20 @@ unfoldable pub listed : {A : Type 0} → (ℕ → A) → ℕ → ℕ → List A
 listed f zero i = []
 listed f (suc left) i = f i ∷ listed f left (i + 1)
 
+-- 1 for a test that holds, else 0.
+unfoldable pub bit : Bool → ℕ
+bit b = cond b 1 0
+
+-- The sum of the table's values at them.
+unfoldable pub total : (ℕ → ℕ) → ℕ → ℕ → ℕ
+total f zero i = 0
+total f (suc left) i = f i + total f left (i + 1)
+
 -- The table with the value v at k.
 unfoldable pub update : {A : Type 0} → (ℕ → A) → ℕ → A → ℕ → A
 update f k v j = cond (eqb j k) v (f j)
 
 -- What an evaluation unfolds of this file.
 unfoldable pub evaluatedRanges : Unit {0}
-unfolding any all lowest members listed update
+unfolding any all lowest members listed bit total update
 evaluatedRanges = tt

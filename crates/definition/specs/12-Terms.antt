@@ -27,11 +27,15 @@ pub data Class : Type 0 where
   absent-term : Class
   no-term : Class
 
+-- One more than the highest agent.
+abbrev pub agentsEnd : ℕ
+agentsEnd = 16384
+
 -- "0 to 16,383 agents; 16,384 to 32,767 data; 32,768 to 32,799 agent parameters; 32,800 to 32,831 data parameters;
 -- 40,960 to 40,967 agent variables 0 to 7; 40,968 to 40,975 data variables 0 to 7; others are no terms."
 unfoldable pub classOf : ℕ → Class
 classOf t =
-    cond (ltb t 16384) (object agents)
+    cond (ltb t agentsEnd) (object agents)
     (cond (ltb t 32768) (object data-objects)
     (cond (ltb t 32800) (parameter agents)
     (cond (ltb t 32832) (parameter data-objects)

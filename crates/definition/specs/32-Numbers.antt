@@ -22,3 +22,8 @@ pub record RunNumbers : Type 0 where
 unfoldable pub runNumbers : Checked (Unit {0}) → RunNumbers
 runNumbers (accepts x) = record { number = 0; place = 0 }
 runNumbers (refuses n p) = record { number = n; place = p }
+
+-- What building an index comes to, in the fields of a verdict: built is kind 0, with the entries written.
+unfoldable pub builtNumbers : Checked ℕ → VerdictNumbers
+builtNumbers (accepts n) = record { kind = 0; first = n; second = 0 }
+builtNumbers (refuses n p) = record { kind = 2; first = n; second = p }

@@ -1,4 +1,4 @@
--- What is right, in document 01's order: 0 numbers, lists and checks; 1 the case file; 2 the steps of a justification; 3 the verdict; 4 the demands, and what requests of document 02 promise and leave as it was; 5 examples.
+-- What is right, in document 01's order: 0 numbers, lists and checks; 1 the case file; 2 the steps of a justification; 3 the verdict; 4 the demands, and what requests of document 02 promise and leave as it was; 5 and 6 examples.
 pub mod 01-Words
 pub mod 02-Ranges
 pub mod 03-Lists
@@ -18,12 +18,15 @@ pub mod 31-Outcome
 pub mod 32-Numbers
 pub mod 33-Text
 pub mod 34-Program
+pub mod 35-Index
 pub mod 41-Occurrences
 pub mod 42-Account
 pub mod 43-Alike
 pub mod 44-Demands
 pub mod 45-Promises
 pub mod 46-Requests
+pub mod 47-Indexed
+pub mod 48-Places
 pub mod 51-Files
 pub mod 52-Evaluation
 pub mod 53-Desk
@@ -33,3 +36,4 @@ pub mod 56-SeenRows
 pub mod 57-Texts
 pub mod 58-Table
 pub mod 59-Sizes
+pub mod 60-Indexes

@@ -1,21 +1,19 @@
 -- What callers of this library may cite, and they cite this file alone: what `admit`'s answer says of the rows, which sizes the column of `admit_into` holds, a row's fields from its tree and the tree from its fields, one number for a tree, and what each answer about a formula says of it. Assumes nothing.
-use Prim.Native.Nat.{ℕ, _-_, _≤_, _<_}
-use mathlib.Core.Path.{_≡_, refl, ap}
-use mathlib.Core.Bool.{Bool, true, false, cond}
+use Prim.Native.Nat.{ℕ, _≤_, _<_}
+use mathlib.Core.Path.{_≡_, ap}
+use mathlib.Core.Bool.{false}
 use mathlib.Core.List.{List, _∷_}
 use lib.ListN.{length}
 use native.Mathlib.Omega.{arith}
 use lib.Dec.{eqb, ltb, leb}
 use borrow.Author.Tests.{eqb-true, eq-eqb}
 use Rattle.definition.proofs.CheckLaws.{all-hold, by-number}
-use Rattle.definition.specs.01-Words.{absent}
 use Rattle.definition.specs.04-Checks.{single, AllHold}
 use Rattle.definition.specs.11-Layout.{formula-part}
 use Rattle.definition.proofs.SizeColumns.{few-rows, admitted-told}
 use Rattle.definition.proofs.Tests.{one-answer}
-use Rattle.definition.specs.12-Terms.{agents, data-objects, object, parameter, variable, absent-term, no-term, classOf, isObject, sameSort}
 use Rattle.definition.specs.13-Formulas.{same, isPolicy, isAction, isPredicate}
-use Rattle.definition.specs.14-Book.{Row, rowAt, bookRows, treeIn, treeOf, trees, book, badFormula, sameRow, repeatsLower, isMisshapen, bookChecks, bookAdmission, sizeColumn}
+use Rattle.definition.specs.14-Book.{Row, rowAt, bookRows, treeIn, treeOf, book, badFormula, sameRow, repeatsLower, isMisshapen, bookChecks, bookAdmission, sizeColumn}
 use Rattle.formula_book.specs.GoodRows.{GoodRow}
 use Rattle.formula_book.specs.AdmittedBooks.{AdmittedBook}
 use Rattle.formula_book.specs.Sizes.{SizesHeld}
@@ -89,21 +87,3 @@ module _ (s : List ℕ) (row : ℕ) (g : GoodRow s row) where
 
   pub row-predicate : isPredicate (treeIn (book s) row) ≡ eqb (rowAt s row .kind) 0
   row-predicate = shape-predicate (row-is s row g)
-
--- The agents are the numbers below 16,384.
-pub agent-is : (t : ℕ) → isObject agents (classOf t) ≡ ltb t 16384
-unfolding classOf isObject sameSort
-agent-is t = go (ltb t 16384) (ltb t 32768) (ltb t 32800) (ltb t 32832) (ltb t 40960) (ltb t 40968) (ltb t 40976) (eqb t absent)
-  where
-    go :
-        (a b c d e f g h : Bool) →
-        isObject agents (cond a (object agents) (cond b (object data-objects) (cond c (parameter agents) (cond d (parameter data-objects) (cond e no-term (cond f (variable agents (t - 40960)) (cond g (variable data-objects (t - 40968)) (cond h absent-term no-term)))))))) ≡ a
-    go true b c d e f g h = refl
-    go false true c d e f g h = refl
-    go false false true d e f g h = refl
-    go false false false true e f g h = refl
-    go false false false false true f g h = refl
-    go false false false false false true g h = refl
-    go false false false false false false true h = refl
-    go false false false false false false false true = refl
-    go false false false false false false false false = refl

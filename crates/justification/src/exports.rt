@@ -1,12 +1,15 @@
 // What C and Rust programs call. include/justification.h is the manual.
 use crate::numbers::RunNumbers;
 use crate::numbers::VerdictNumbers;
+use crate::numbers::built_numbers;
 use crate::numbers::run_numbers;
 use crate::numbers::verdict_numbers;
 ghost use mathlib.Core.Path.{_≡_};
 ghost use Rattle.definition.specs.14-Book.{bookAdmission, sizeColumn};
-ghost use Rattle.definition.specs.32-Numbers.{verdictNumbers, runNumbers};
+ghost use Rattle.definition.specs.32-Numbers.{verdictNumbers, runNumbers, builtNumbers};
+ghost use Rattle.definition.specs.35-Index.{building};
 ghost use Rattle.definition.specs.45-Promises.{Answered, AdmissionAnswered};
+ghost use Rattle.definition.specs.47-Indexed.{AnsweredThrough};
 ghost use Rattle.justification.specs.Meanings.{verdictNumbersMeant, runNumbersMeant};
 
 // The verdict on any bytes, and the room after it.
@@ -23,6 +26,26 @@ pub extern "C" fn justification_admit(file: &[u8]) -> RunNumbers
     ensures { λ r. ⌜ AdmissionAnswered runNumbers (now (file .entry)) (runNumbersMeant r) ⌝ }
 {
     run_numbers(case_file::admit(file))
+}
+
+// The index by observer of the log of any bytes as a case file, into a room of any length: checks 1 to 5, then 29.
+#[no_mangle]
+pub extern "C" fn justification_index(file: &[u8], index: &mut [u16]) -> VerdictNumbers
+    ensures { λ r. ⌜ (verdictNumbersMeant r ≡ builtNumbers (building (now (file .entry)) (now (index .entry)) .answer)) × (now (index .exit) ≡ building (now (file .entry)) (now (index .entry)) .room) ⌝ }
+{
+    built_numbers(observer_index::build(file, index))
+}
+
+// The verdict on any bytes through any table as the index of their log, and the room after it.
+#[no_mangle]
+pub extern "C" fn justification_check_indexed(
+    file: &[u8],
+    index: &[u16],
+    room: &mut [u16],
+) -> VerdictNumbers
+    ensures { λ r. ⌜ AnsweredThrough verdictNumbers (now (file .entry)) (now (index .entry)) (now (room .entry)) (verdictNumbersMeant r) (now (room .exit)) ⌝ }
+{
+    verdict_numbers(observer_index::check_through(file, index, room))
 }
 
 // The answer to any bytes as a book, by checks 3 and 4: for the tests and the benchmark of the book alone.

@@ -1,10 +1,12 @@
 // Answers in numbers, as C gets them.
 use checker::Verdict;
+use observer_index::Built;
 use words::Failure;
 ghost use mathlib.Core.Path.{_≡_};
-ghost use Rattle.definition.specs.32-Numbers.{verdictNumbers, runNumbers};
+ghost use Rattle.definition.specs.32-Numbers.{verdictNumbers, runNumbers, builtNumbers};
 ghost use Rattle.words.specs.Meanings.{failureMeant};
 ghost use Rattle.checker.specs.Meanings.{verdictMeant};
+ghost use Rattle.observer_index.specs.Meanings.{builtMeant};
 ghost use Rattle.justification.specs.Meanings.{verdictNumbersMeant, runNumbersMeant};
 
 // A verdict: its kind, then the two values of the case, 0 where it has none.
@@ -22,6 +24,9 @@ pub struct RunNumbers {
     pub place: u16,
 }
 
+// The kind of a refusal, of a verdict or of building.
+const REFUSED: u16 = 2;
+
 pub fn verdict_numbers(verdict: Verdict) -> VerdictNumbers
     ensures { λ r. ⌜ verdictNumbersMeant r ≡ verdictNumbers (verdictMeant verdict) ⌝ }
 {
@@ -37,7 +42,7 @@ pub fn verdict_numbers(verdict: Verdict) -> VerdictNumbers
             second: 0,
         },
         Verdict::Refused(number, place) => VerdictNumbers {
-            kind: 2,
+            kind: REFUSED,
             first: number,
             second: place,
         },
@@ -53,5 +58,23 @@ pub fn run_numbers(failure: Failure) -> RunNumbers
             place: 0,
         },
         Failure::At(number, place) => RunNumbers { number, place },
+    }
+}
+
+// Built is kind 0, with the entries written; refused is that of a verdict.
+pub fn built_numbers(built: Built) -> VerdictNumbers
+    ensures { λ r. ⌜ verdictNumbersMeant r ≡ builtNumbers (builtMeant built) ⌝ }
+{
+    match built {
+        Built::Entries(entries) => VerdictNumbers {
+            kind: 0,
+            first: entries,
+            second: 0,
+        },
+        Built::Refused(number, place) => VerdictNumbers {
+            kind: REFUSED,
+            first: number,
+            second: place,
+        },
     }
 }

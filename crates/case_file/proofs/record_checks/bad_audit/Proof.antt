@@ -5,7 +5,7 @@ use mathlib.Core.Bool.{not}
 use native.Mathlib.Omega.{arith}
 use borrow.Author.Tests.{lt-ltb, le-ltb}
 use Rattle.definition.proofs.Tests.{both-second}
-use Rattle.formula_book.proofs.Laws.{agent-is}
+use Rattle.definition.proofs.OccurrenceLaws.{agent-is}
 use Rattle.definition.specs.11-Layout.{agentOf}
 use Rattle.definition.specs.15-Records.{isGroundAction, badAudit}
 use Rattle.case_file.proofs.BookOfFile.{named}
