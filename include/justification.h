@@ -359,7 +359,9 @@ struct justification_admission justification_admit(const uint8_t *file,
 ** log, who observes them, and how many there are, also to an agent that
 ** observes none. Keep it where the log is kept. What the agent may get is the
 ** verdict of justification_check_indexed with its room, in which no row shows
-** that the agent does not observe.
+** that the agent does not observe; but for a refusal by 30, which tells that the
+** log is not the one of the index, and that may be by such a row. Keep 30 at the
+** desk, as 1, 2 and 5, build the index anew, and check again.
 **
 ** justification_index builds it from the log of a case file, by checks 1 to 5
 ** alone: agent, conditions, obligations, labels and steps do not matter.
@@ -394,7 +396,7 @@ struct justification_admission justification_admit(const uint8_t *file,
 ** Hidden rows. Put any other action in a row that the agent does not observe,
 ** strike it out, or change its other observers, and lend each file its own
 ** index: the answer of justification_check_indexed stays the same, but for 1,
-** 2 and 5, as it is said at justification_check.
+** 2 and 5, as it is said at justification_check. 30 never comes then.
 **
 ** What is said there of the file, the heap, the stack, threads and the caller
 ** holds here too; index is valid for index_entries entries of two bytes each,
