@@ -3,9 +3,11 @@
 ** interface for C and its manual.
 **
 ** An agent has acted. The case file holds the grounds: the audited action, the
-** shared log, readings that were certified, obligations, and the steps of a
-** justification. justification_check tells whether the steps prove what the
-** agent owes for the action, and if not, which check fails first and where.
+** shared log, readings that were certified, obligations with the hour by which
+** each is due, and the steps of a justification. justification_check tells
+** whether the steps prove what the agent owes for the action, and whether the
+** obligations due before the audit hour were carried out; and if not, which
+** check fails first and where.
 **
 ** Link with libjustification.a. The verdict and every entry of the room are
 ** proved to be what the rules give, for every file, damaged ones too, and every
@@ -31,12 +33,12 @@ extern "C" {
 /*
 ** Limits.
 **
-** A file has at most 47,652 bytes; a longer one is refused by 1, so a caller
+** A file has at most 47,910 bytes; a longer one is refused by 1, so a caller
 ** never needs to read more than one byte beyond. A pass never writes more than
 ** 1,088 entries (64 obligations and 1,024 rows): a room of that many is always
 ** long enough. A shorter one will do if fewer are cited; see refusal 23.
 */
-#define JUSTIFICATION_LARGEST_FILE 47652
+#define JUSTIFICATION_LARGEST_FILE 47910
 #define JUSTIFICATION_ROOM 1088
 
 /* The most entries of an index by observer; see justification_index. */
@@ -51,8 +53,9 @@ extern "C" {
 **     the rows: ascending, each once, numbered from 0 as in the file. For the
 **     desk: the action was allowed. The duties listed are used up or relied
 **     on, and the rows listed are what the agent's right rests on.
-** kind 1, none owed. This action asks nothing of this agent, and the file
-**     claims nothing. first and second are 0. For the desk: nothing to do.
+** kind 1, none owed. This action asks no proof of this agent, the file claims
+**     none, and no duty is overdue. first and second are 0. For the desk:
+**     nothing to do.
 ** kind 2, refused. first is the number of the first check that fails, second
 **     its place; both are told below. For the desk: the action is not
 **     justified by this file. It may be by another.
@@ -70,13 +73,17 @@ struct justification_verdict {
 /*
 ** Refusals, in the order in which the checks are made: 1 to 11 by number, the
 ** lowest place first, and 30 between 9 and 10; then step by step, each through
-** 12 to 17, then 27, 24, 25 and 26, then 18, 19 and 28; then 20 to 23. A number
-** is a name and tells no order. One exception: where a step cites a log row that
-** is struck out, 16 is tried before 14. All places are counted from 0.
+** 12 to 17, then 27, 24, 25 and 26, then 18, 19 and 28; then 20 to 22, 31, 32
+** and 23. Where nothing is owed and there are no steps, 31 and 32 come directly
+** before "none owed". A number is a name and tells no order. One exception:
+** where a step cites a log row that is struck out, 16 is tried before 14. All
+** places are counted from 0.
 **
 ** The file is damaged or not a case file. Ask whoever sent it for a good one.
+** A file of the layout with 36 bytes of header, as it was before duties had due
+** hours, is refused by 1 or 2, and never read by the new one.
 **
-**  1  It has under 36 or over 47,652 bytes. Place: 0.
+**  1  It has under 38 or over 47,910 bytes. Place: 0.
 **  2  A part is not where it is due, has no whole number of records or too
 **     many, or goes beyond the end of the file, or the last part ends before
 **     it; or there are observers without log rows, or premises without steps.
@@ -87,9 +94,11 @@ struct justification_verdict {
 **  5  A log row holds no action that could have happened, or its observers are
 **     out of order or not its own. Place: the log row.
 **  6  A condition is no reading that could be certified. Place: the condition.
-**  7  An obligation has no mark 1 or 2, or no action. Place: the obligation.
+**  7  An obligation has no mark 1 or 2, no action or no due hour, or names a
+**     row that the log does not have. Place: the obligation.
 **  8  A label's mark and formula do not go together. Place: the label.
-**  9  The agent is no agent, or the audited action no action. Place: 0.
+**  9  The agent is no agent, the audited action no action, or the audit hour is
+**     absent. Place: 0.
 **
 ** The index by observer. Of justification_check neither is ever the answer.
 **
@@ -162,6 +171,23 @@ struct justification_verdict {
 ** 21  Something is still only supposed at the end. Place: the lowest label
 **     still open.
 ** 22  What is proved is not what is owed. Place: the last step.
+**
+** A duty was not carried out, or one deed stands for two duties. These look at
+** all obligations of the file, also at those that no step cites. Place: the
+** lowest such obligation.
+**
+** 31  The obligation was due before the audit hour, and the file does not show
+**     that it was done: it names no log row, or the agent does not observe the
+**     row, or the row is struck out or has another action. Due at the audit
+**     hour is not yet expired. Which of these it is does not show: a row that
+**     the agent does not observe counts as not done, whatever it holds. Ask
+**     the agent for the row in which it was done.
+** 32  An obligation owed at each use names the row that an earlier one, owed at
+**     each use too, names: one deed is claimed for two uses. Expired or not, and
+**     whether or not the agent observes the row. A row of its own is needed.
+**
+** All is in order but for the room.
+**
 ** 23  The justification is good and the room is too short. Place: the entries
 **     needed. Call again with a room of so many.
 */
@@ -172,7 +198,7 @@ struct justification_verdict {
 ** The console prints refusals by it.
 */
 #define JUSTIFICATION_REFUSALS(REFUSAL)                                        \
-    REFUSAL(1, FILE_LENGTH, "", "The file has under 36 or over 47,652 bytes.") \
+    REFUSAL(1, FILE_LENGTH, "", "The file has under 38 or over 47,910 bytes.") \
     REFUSAL(2, FAULTY_PART, "Part",                                            \
             "it is not where it is due, or its length is not right.")          \
     REFUSAL(3, BAD_FORMULA, "Formula", "it is not well made.")                 \
@@ -183,11 +209,12 @@ struct justification_verdict {
     REFUSAL(6, BAD_CONDITION, "Condition",                                     \
             "it is no reading that could be certified.")                       \
     REFUSAL(7, BAD_OBLIGATION, "Obligation",                                   \
-            "its mark or its action is not well made.")                        \
+            "its mark, its action, its due hour or its row is not well made.") \
     REFUSAL(8, BAD_LABEL, "Label",                                             \
             "its mark and its formula do not go together.")                    \
     REFUSAL(9, BAD_AUDIT, "",                                                  \
-            "The agent is no agent, or the audited action is no action.")      \
+            "The agent is no agent, the audited action is no action, or the "  \
+            "audit hour is absent.")                                           \
     REFUSAL(29, INDEX_ROOM_TOO_SHORT, "Entries needed",                        \
             "the room for the index is too short.")                            \
     REFUSAL(30, NOT_THE_INDEX, "",                                             \
@@ -227,6 +254,12 @@ struct justification_verdict {
     REFUSAL(21, LABEL_OPEN, "Label", "it is still open at the end.")           \
     REFUSAL(22, NOT_WHAT_IS_OWED, "Step",                                      \
             "it is the last one, and does not prove what is owed.")            \
+    REFUSAL(31, DUTY_NOT_DONE, "Obligation",                                   \
+            "it was due before the audit hour, and it names no log row that "  \
+            "the agent observes with its action.")                             \
+    REFUSAL(32, ROW_NAMED_TWICE, "Obligation",                                 \
+            "it is owed at each use, and an earlier one owed at each use "     \
+            "names the same log row.")                                         \
     REFUSAL(23, ROOM_TOO_SHORT, "Entries needed", "the room is too short.")
 
 /*
@@ -306,11 +339,13 @@ enum justification_refusal {
 ** Hidden rows. A log row that the agent does not observe never shows. Put any
 ** other action in that row, strike it out, or change its other observers: the
 ** kind, the number, the place, the counts and every entry of the room stay the
-** same, also where a step cites the row, which is 16 in each case. The answer
-** is the one for the log with all such rows struck out. Two things are not
-** hidden: how many rows the log has, and that a file is damaged. A refusal by
-** 1, 2 or 5 may come from a row that the agent does not observe: keep it at
-** the desk. Nothing is promised of the time that a call takes.
+** same, also where a step cites the row, which is 16 in each case, or an
+** obligation names it, which then counts as not done in each case. The answer is
+** the one for the log with all such rows struck out. The audit hour is not
+** hidden: it is the file's own. Two things of the log are not hidden: how many
+** rows it has, and that a file is damaged. A refusal by 1, 2 or 5 may come from
+** a row that the agent does not observe: keep it at the desk. Nothing is
+** promised of the time that a call takes.
 **
 ** What the caller keeps. file is valid for file_bytes bytes, room for
 ** room_entries entries of two bytes each, aligned for uint16_t, and the two do

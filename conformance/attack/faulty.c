@@ -1,9 +1,10 @@
 /*
 ** Stands in for the library, to see that guard.c catches what it is for. It
-** knows one file, which `tests/attack.rs` has: nothing is owed in it, its book
-** has one formula, and agent 0 observes its one log row. It refuses every other
-** file by 1, and admits every other book as if it had no formula. FAULT says what
-** it does wrong: 0 for nothing.
+** knows two files, which `tests/attack.rs` has: nothing is owed in them, their
+** book has one formula, and agent 0 observes their one log row; the second has a
+** duty that is expired and not done. It refuses every other file by 1, and admits
+** every other book as if it had no formula. FAULT says what it does wrong: 0 for
+** nothing.
 */
 #include "justification.h"
 
@@ -11,20 +12,43 @@
 #define INDEX_TOO_SHORT 29
 #define INDEX_NOT_AS_BUILT 30
 
-/* The bytes of the file that it knows, of its book, and its index. */
-#define KNOWN 52
+/* The bytes of a header, which ends with the audit hour, of the book, of the log, and of an
+** obligation; and the files that it knows. */
+#define HEADER 38
 #define KNOWN_BOOK 8
+#define KNOWN_LOG 8
+#define OBLIGATION 8
+#define KNOWN (HEADER + KNOWN_BOOK + KNOWN_LOG)
+#define WITH_DUTY (KNOWN + OBLIGATION)
+
+/* The index of both. */
 #define DUE 5
 static const uint16_t due[DUE] = {1, 0, 4, 1, 0};
 
 static const struct justification_verdict refused = {JUSTIFICATION_REFUSED,
                                                      JUSTIFICATION_FILE_LENGTH, 0};
 static const struct justification_verdict none_owed = {JUSTIFICATION_NONE_OWED, 0, 0};
+static const struct justification_verdict not_done = {JUSTIFICATION_REFUSED,
+                                                      JUSTIFICATION_DUTY_NOT_DONE, 0};
+
+static int is_known(size_t file_bytes)
+{
+    return file_bytes == KNOWN || file_bytes == WITH_DUTY;
+}
+
+/* The verdict of a check without an index. */
+static struct justification_verdict plain_verdict(size_t file_bytes)
+{
+    if (file_bytes == WITH_DUTY) {
+        return not_done;
+    }
+    return file_bytes == KNOWN ? none_owed : refused;
+}
 
 struct justification_verdict justification_check(const uint8_t *file, size_t file_bytes,
                                                  uint16_t *room, size_t room_entries)
 {
-    struct justification_verdict verdict = file_bytes == KNOWN ? none_owed : refused;
+    struct justification_verdict verdict = plain_verdict(file_bytes);
     volatile uint8_t *bytes = (volatile uint8_t *)(uintptr_t)file;
     volatile uint16_t *entries = room;
     switch (FAULT) {
@@ -51,6 +75,19 @@ struct justification_verdict justification_check(const uint8_t *file, size_t fil
     case 7: /* gives another place */
         verdict.second = 1;
         break;
+    case 37: /* reads the audit hour of a file that has none */
+        if (file_bytes < HEADER) {
+            (void)bytes[HEADER - 1];
+        }
+        break;
+    case 38: /* writes to the room before it knows what duties were done */
+        if (file_bytes == WITH_DUTY && room_entries > 0) {
+            entries[0] = 0;
+        }
+        break;
+    case 39: /* does not look at duties where nothing is owed */
+        verdict = is_known(file_bytes) ? none_owed : verdict;
+        break;
     default:
         break;
     }
@@ -61,8 +98,11 @@ struct justification_admission justification_admit(const uint8_t *file, size_t f
 {
     struct justification_admission admission = {JUSTIFICATION_FILE_LENGTH, 0};
     (void)file;
-    if (file_bytes == KNOWN) {
+    if (is_known(file_bytes)) {
         admission.number = 0;
+    }
+    if (FAULT == 40 && file_bytes == WITH_DUTY) { /* 40: asks what duties were done */
+        admission.number = JUSTIFICATION_DUTY_NOT_DONE;
     }
     return admission;
 }
@@ -101,7 +141,7 @@ struct justification_admission formula_book_sizes(const uint8_t *book, size_t bo
     return admission;
 }
 
-/* Whether the entries begin with the index of the file that it knows. */
+/* Whether the entries begin with the index of the files that it knows. */
 static int is_as_built(const uint16_t *index, size_t index_entries)
 {
     size_t looked_at = FAULT == 32 ? DUE - 1 : DUE; /* 32: does not look at the last entry */
@@ -127,7 +167,7 @@ struct justification_verdict justification_index(const uint8_t *file, size_t fil
     struct justification_verdict too_short = {JUSTIFICATION_REFUSED, INDEX_TOO_SHORT, DUE};
     volatile uint8_t *bytes = (volatile uint8_t *)(uintptr_t)file;
     volatile uint16_t *entries = index;
-    size_t written = file_bytes == KNOWN && index_entries >= DUE ? DUE : 0;
+    size_t written = is_known(file_bytes) && index_entries >= DUE ? DUE : 0;
     size_t i;
     switch (FAULT) {
     case 14: /* reads behind the file */
@@ -143,10 +183,10 @@ struct justification_verdict justification_index(const uint8_t *file, size_t fil
         *(entries - 1) = 0;
         break;
     case 18: /* writes an entry of a file that is refused */
-        written = file_bytes != KNOWN && index_entries > 0 ? 1 : written;
+        written = !is_known(file_bytes) && index_entries > 0 ? 1 : written;
         break;
     case 19: /* writes entries before it knows that they are too few */
-        written = file_bytes == KNOWN && index_entries < DUE ? index_entries : written;
+        written = is_known(file_bytes) && index_entries < DUE ? index_entries : written;
         break;
     case 20: /* writes an entry behind the index */
         if (written == DUE && index_entries > DUE) {
@@ -173,7 +213,7 @@ struct justification_verdict justification_index(const uint8_t *file, size_t fil
     for (i = 0; i < written; i++) {
         entries[i] = due[i];
     }
-    if (file_bytes != KNOWN) {
+    if (!is_known(file_bytes)) {
         return refused;
     }
     return index_entries >= DUE ? built : too_short;
@@ -225,11 +265,18 @@ struct justification_verdict justification_check_indexed(const uint8_t *file, si
             return not_as_built;
         }
         break;
+    case 41: /* writes to the room before it knows what duties were done */
+        if (as_built && file_bytes == WITH_DUTY && room_entries > 0) {
+            entries[0] = 0;
+        }
+        break;
+    case 42: /* asks what duties were done before it looks at the index */
+        if (file_bytes == WITH_DUTY) {
+            return not_done;
+        }
+        break;
     default:
         break;
     }
-    if (file_bytes != KNOWN) {
-        return refused;
-    }
-    return as_built ? none_owed : not_as_built;
+    return is_known(file_bytes) && !as_built ? not_as_built : plain_verdict(file_bytes);
 }

@@ -18,6 +18,7 @@
 
 #include "justification.h"
 
+/* A record's length has 16 bits; the largest file that is no refusal by 1 has 47,910 bytes. */
 #define FILE_AREA 65536
 #define ROOM_AREA 4096
 #define COLUMN_AREA 4096

@@ -125,6 +125,24 @@ pub struct LogRow {
     pub span: Option<(u16, u16)>,
 }
 
+/// The audit hour of a new case.
+pub const HOUR: u16 = 50;
+
+#[derive(Clone, Copy, PartialEq)]
+pub struct Obligation {
+    pub mark: u16,
+    pub action: u16,
+    pub due: u16,
+    pub row: u16,
+}
+
+impl Obligation {
+    /// One that is not due, and names no row.
+    pub fn new(mark: u16, action: u16) -> Obligation {
+        Obligation { mark, action, due: HOUR, row: ABSENT }
+    }
+}
+
 #[derive(Clone)]
 pub struct Step {
     pub rule: u16,
@@ -139,12 +157,14 @@ pub struct Step {
 pub struct CaseFile {
     pub agent: u16,
     pub action: u16,
+    /// The audit hour.
+    pub hour: u16,
     pub header: [Option<(u16, u16)>; 8],
     pub names: Vec<&'static str>,
     pub formulas: Vec<FormulaRow>,
     pub rows: Vec<LogRow>,
     pub conditions: Vec<u16>,
-    pub obligations: Vec<(u16, u16)>,
+    pub obligations: Vec<Obligation>,
     pub labels: Vec<(u16, u16)>,
     pub steps: Vec<Step>,
 }
@@ -155,6 +175,7 @@ impl CaseFile {
         CaseFile {
             agent,
             action: ABSENT,
+            hour: HOUR,
             header: [None; 8],
             names: Vec::new(),
             formulas: Vec::new(),
@@ -206,7 +227,14 @@ impl CaseFile {
     }
 
     pub fn obligation(mut self, mark: u16, action: &str) -> CaseFile {
-        self.obligations.push((mark, self.number(action)));
+        self.obligations.push(Obligation::new(mark, self.number(action)));
+        self
+    }
+
+    /// An obligation that was due an hour before the audit, and names this row.
+    pub fn expired(mut self, mark: u16, action: &str, row: u16) -> CaseFile {
+        let action = self.number(action);
+        self.obligations.push(Obligation { mark, action, due: self.hour - 1, row });
         self
     }
 
@@ -243,13 +271,15 @@ impl CaseFile {
     /// Every number outside the book that names a formula.
     pub fn formula_numbers(&mut self) -> impl Iterator<Item = &mut u16> {
         let rows = self.rows.iter_mut().map(|row| &mut row.action);
-        let marked = self.obligations.iter_mut().chain(&mut self.labels).map(|entry| &mut entry.1);
+        let obligations = self.obligations.iter_mut().map(|duty| &mut duty.action);
+        let labels = self.labels.iter_mut().map(|label| &mut label.1);
         let steps = self.steps.iter_mut().map(|step| &mut step.formula);
         [&mut self.action]
             .into_iter()
             .chain(rows)
             .chain(&mut self.conditions)
-            .chain(marked)
+            .chain(obligations)
+            .chain(labels)
             .chain(steps)
     }
 
@@ -261,8 +291,8 @@ impl CaseFile {
 
     /// The eight parts, by place.
     fn parts(&self) -> [Vec<u8>; 8] {
-        let pairs =
-            |records: &[(u16, u16)]| bytes(records.iter().flat_map(|record| [record.0, record.1]));
+        let duty = |duty: &Obligation| [duty.mark, duty.action, duty.due, duty.row];
+        let label = |label: &(u16, u16)| [label.0, label.1];
         let (rows, observers) = self.log_parts();
         let (steps, premises) = self.step_parts();
         [
@@ -270,8 +300,8 @@ impl CaseFile {
             rows,
             observers,
             bytes(self.conditions.iter().copied()),
-            pairs(&self.obligations),
-            pairs(&self.labels),
+            bytes(self.obligations.iter().flat_map(duty)),
+            bytes(self.labels.iter().flat_map(label)),
             steps,
             premises,
         ]
@@ -308,18 +338,29 @@ impl CaseFile {
         (bytes(records), bytes(premises))
     }
 
+    /// The eight pairs of offset and length that the header has.
+    pub fn pairs(&self) -> [(u16, u16); 8] {
+        pairs_over(&self.parts(), self.header)
+    }
+
     pub fn to_bytes(&self) -> Vec<u8> {
         let parts = self.parts();
-        let mut file = bytes([self.agent, self.action]);
-        let mut offset = HEADER_BYTES;
-        for (part, given) in parts.iter().zip(self.header) {
-            let pair = given.unwrap_or((offset as u16, part.len() as u16));
-            file.extend(bytes([pair.0, pair.1]));
-            offset += part.len();
-        }
-        file.extend(parts.concat());
-        file
+        let pairs = pairs_over(&parts, self.header).into_iter();
+        let pairs = pairs.flat_map(|(offset, length)| [offset, length]);
+        let header = [self.agent, self.action].into_iter().chain(pairs).chain([self.hour]);
+        [bytes(header), parts.concat()].concat()
     }
+}
+
+/// The pairs that are given, and for the other parts those that are due.
+fn pairs_over(parts: &[Vec<u8>; 8], given: [Option<(u16, u16)>; 8]) -> [(u16, u16); 8] {
+    let mut offset = HEADER_BYTES;
+    let mut due = |place: usize| {
+        let pair = (offset as u16, parts[place].len() as u16);
+        offset += parts[place].len();
+        given[place].unwrap_or(pair)
+    };
+    std::array::from_fn(&mut due)
 }
 
 /// Numbers as the file has them, low byte first.

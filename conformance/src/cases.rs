@@ -1,13 +1,13 @@
 //! Document 01's examples: the rows of its table, and the desk cases; examples of the numbers that
-//! change requests 1 to 3 of document 02 bring; and a log that several agents observe, for the index
-//! of request 5.
+//! change requests 1 to 3 of document 02 bring; a log that several agents observe, for the index of
+//! request 5; and duties with a due hour, of request 6.
 
 use std::fs::{self, DirEntry};
 use std::io;
 use std::path::Path;
 
 use crate::builder::*;
-use crate::checker::{Verdict, ABSENT};
+use crate::checker::{Verdict, ABSENT, HEADER_BYTES};
 use crate::misfits::misfits;
 use crate::vectors::{read, read_buildings, read_throughs, Building, Through, Vector};
 
@@ -24,13 +24,16 @@ pub fn examples() -> Vec<Vector> {
     all.extend(data_variables_at_the_desk());
     all.extend(refinements_at_the_desk());
     all.push(passed("Shared log", shared_log(), &[], &[1]));
+    all.extend(duties_at_the_desk());
+    all.extend(bad_hours_at_the_desk());
     all
 }
 
 /// The rows of the table for the checks before the steps.
 fn admission_rows() -> Vec<Vector> {
     let empty = Vector { file: Vec::new(), ..refused("row 1: empty", grant(), 1, 0) };
-    let first_offset = grant().change(|case| case.header[0] = Some((35, 40)));
+    let one_less = (HEADER_BYTES as u16 - 1, grant().pairs()[0].1);
+    let first_offset = grant().change(|case| case.header[0] = Some(one_less));
     let row_0_code = grant().change(|case| case.formulas[0].code = 1);
     let row_0_again = grant().formula("created again", creates(0, data(0)));
     let observers = grant().change(|case| case.rows[0].observers = vec![0, 0]);
@@ -42,7 +45,7 @@ fn admission_rows() -> Vec<Vector> {
     let agent = grant().change(|case| case.agent = 1);
     vec![
         empty,
-        refused("row 2: Grant, first offset 35", first_offset, 2, 0),
+        refused("row 2: Grant, first offset one less", first_offset, 2, 0),
         refused("row 3: Grant, row 0 code 1", row_0_code, 3, 0),
         refused("row 4: Grant, row 0 again as 5", row_0_again, 4, 5),
         refused("row 5: Grant, observers 0, 0", observers, 5, 0),
@@ -90,17 +93,16 @@ fn end_rows() -> Vec<Vector> {
 
 /// The desk cases that are not in the table.
 fn desk_cases() -> Vec<Vector> {
-    let creator = grant().audits("0 creates").change(|case| case.steps.clear());
     let absent = visit().change(|case| case.conditions = vec![ABSENT]);
     let no_conditions = visit().change(|case| case.conditions.clear());
     let second = twice().obligation(1, "action 3").change(|case| case.steps[5].argument = 1);
     let once = twice().change(|case| {
         case.formulas[2].kind = 7;
-        case.obligations[0].0 = 2;
+        case.obligations[0].mark = 2;
     });
     vec![
         passed("Grant", grant(), &[], &[0]),
-        vector("Creator", creator, Verdict::NoneOwed),
+        vector("Creator", creator(), Verdict::NoneOwed),
         passed("Visit", visit(), &[], &[0]),
         refused("Visit, condition absent", absent, 14, 2),
         refused("Visit, no conditions", no_conditions, 15, 2),
@@ -152,9 +154,54 @@ fn refinements_at_the_desk() -> Vec<Vector> {
     ]
 }
 
+/// 31 and 32 as the desk meets them; and duties that were done.
+fn duties_at_the_desk() -> Vec<Vector> {
+    let not_reported = reported().change(|case| case.obligations[1].row = ABSENT);
+    let struck = reported().change(|case| case.rows[1].action = ABSENT);
+    let unseen = reported().change(|case| case.rows[2].observers = vec![0]);
+    let one_report = reported().change(|case| case.obligations[1].row = 1);
+    let once = one_report.clone().change(|case| {
+        case.formulas[2].kind = 7;
+        case.obligations.iter_mut().for_each(|duty| duty.mark = 2);
+    });
+    let other_row = visit().formula("1 reports", user_action(3, &[1])).expired(2, "1 reports", 0);
+    let creator = || creator().formula("0 reports", user_action(3, &[0]));
+    let due = creator().expired(1, "0 reports", ABSENT);
+    let done = creator().row("0 reports", &[0]).expired(1, "0 reports", 1);
+    vec![
+        passed("Twice, a report for each use", reported(), &[0, 1], &[0]),
+        refused("31: Twice, a report not made", not_reported, 31, 1),
+        refused("31: Twice, a report struck out", struck, 31, 0),
+        refused("31: Twice, a report unseen", unseen, 31, 1),
+        refused("31: Visit, a row of another action", other_row, 31, 0),
+        refused("31: Creator, a report not made", due, 31, 0),
+        vector("Creator, a report made", done, Verdict::NoneOwed),
+        refused("32: Twice, one report for two uses", one_report, 32, 1),
+        passed("Twice, one report for two duties owed once", once, &[0, 1], &[0]),
+    ]
+}
+
+/// 7 and 9 of hours that are absent; and 7 of a row beyond the log.
+fn bad_hours_at_the_desk() -> Vec<Vector> {
+    let duty = || grant().formula("0 reports", user_action(3, &[0])).obligation(1, "0 reports");
+    let no_due_hour = duty().change(|case| case.obligations[0].due = ABSENT);
+    let no_such_row = duty().change(|case| case.obligations[0].row = 1);
+    let no_hour = grant().change(|case| case.hour = ABSENT);
+    vec![
+        refused("7: Grant, a duty without a due hour", no_due_hour, 7, 0),
+        refused("7: Grant, a duty done beyond the log", no_such_row, 7, 0),
+        refused("9: Grant, no audit hour", no_hour, 9, 0),
+    ]
+}
+
 /// Agent 0 created data 0 and grants agent 1 its use.
 pub fn grant() -> CaseFile {
     granted(created().formula("use", predicate(7, &[1, data(0)])), "use")
+}
+
+/// Agent 0 created data 0, and owes nothing for it.
+fn creator() -> CaseFile {
+    grant().audits("0 creates").change(|case| case.steps.clear())
 }
 
 /// What agent 0 created, and owns.
@@ -403,6 +450,18 @@ pub fn twice() -> CaseFile {
         .step(BY_OBLIGATION, "use", 0, &[4])
         .step(AND, "use and use", ABSENT, &[2, 5])
         .step(LEFT, "use", ABSENT, &[6])
+}
+
+/// Twice with an obligation for each use. Both were due, and agent 1 did what they ask for in rows 1
+/// and 2.
+fn reported() -> CaseFile {
+    twice()
+        .row("action 3", &[0, 1])
+        .row("action 3", &[0, 1])
+        .change(|case| case.obligations.clear())
+        .expired(1, "action 3", 1)
+        .expired(1, "action 3", 2)
+        .change(|case| case.steps[5].argument = 1)
 }
 
 /// "Suppose p(32768), then for all by 32768."

@@ -3,7 +3,7 @@
 #[cfg(feature = "proved")]
 use crate::{checker, proved};
 
-use crate::checker::{Refusal, HEADER_BYTES};
+use crate::checker::{number_at, pair_at, Refusal, HEADER_BYTES};
 
 pub type Column = [u8; 1_024];
 
@@ -18,8 +18,8 @@ pub fn lent() -> Column {
 
 /// The formulas of a case file, as far as it has them: any bytes as a book.
 pub fn book_of(file: &[u8]) -> &[u8] {
-    let length = file.get(6..8).map_or(0, |word| u16::from_le_bytes([word[0], word[1]]) as usize);
-    let rest = file.get(HEADER_BYTES..).unwrap_or(&[]);
+    let Some(rest) = file.get(HEADER_BYTES..) else { return &[] };
+    let length = number_at(file, pair_at(0) + 2) as usize;
     &rest[..length.min(rest.len())]
 }
 

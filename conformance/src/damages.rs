@@ -8,15 +8,20 @@ use crate::random::{damage, Random};
 /// All fields of one name, over all records that have it.
 type Fields = fn(&mut CaseFile) -> Vec<&mut u16>;
 
-const FIELDS: [(&str, Fields); 15] = [
+const FIELDS: [(&str, Fields); 18] = [
     ("agent", |case| vec![&mut case.agent]),
     ("action", |case| vec![&mut case.action]),
+    ("audit hour", |case| vec![&mut case.hour]),
     ("formula field", |case| case.formulas.iter_mut().flat_map(|row| &mut row.fields).collect()),
     ("row action", |case| case.rows.iter_mut().map(|row| &mut row.action).collect()),
     ("observer", |case| case.rows.iter_mut().flat_map(|row| &mut row.observers).collect()),
     ("condition", |case| case.conditions.iter_mut().collect()),
-    ("obligation mark", |case| case.obligations.iter_mut().map(|entry| &mut entry.0).collect()),
-    ("obligation action", |case| case.obligations.iter_mut().map(|entry| &mut entry.1).collect()),
+    ("obligation mark", |case| case.obligations.iter_mut().map(|duty| &mut duty.mark).collect()),
+    ("obligation action", |case| {
+        case.obligations.iter_mut().map(|duty| &mut duty.action).collect()
+    }),
+    ("due hour", |case| case.obligations.iter_mut().map(|duty| &mut duty.due).collect()),
+    ("obligation row", |case| case.obligations.iter_mut().map(|duty| &mut duty.row).collect()),
     ("label mark", |case| case.labels.iter_mut().map(|entry| &mut entry.0).collect()),
     ("label formula", |case| case.labels.iter_mut().map(|entry| &mut entry.1).collect()),
     ("rule", |case| case.steps.iter_mut().map(|step| &mut step.rule).collect()),
@@ -101,7 +106,7 @@ const CHANGES: [(&str, Change); 13] = [
         _ => case.labels.truncate(random.below(case.labels.len() + 1)),
     }),
     ("header", |case, random| {
-        let pairs = header(case);
+        let pairs = case.pairs();
         let part = random.below(8);
         let (mut offset, mut length) = pairs[part];
         match random.below(4) {
@@ -129,13 +134,6 @@ fn insert_step(case: &mut CaseFile, random: &mut Random) {
         *premise += u16::from(*premise as usize > at);
     }
     case.steps.insert(at + 1, again);
-}
-
-/// The eight pairs that the header has.
-fn header(case: &CaseFile) -> Vec<(u16, u16)> {
-    let file = case.to_bytes();
-    let number = |at: usize| u16::from_le_bytes([file[at], file[at + 1]]);
-    (0..8).map(|part| (number(4 + 4 * part), number(6 + 4 * part))).collect()
 }
 
 /// Another number: a neighbour, one of the same field elsewhere, or one of the telling ones.

@@ -16,7 +16,7 @@ use crate::vectors::Vector;
 
 /// Each desk case's file, and its name among the examples. Row 23 needs a short room, which no
 /// program lends: the tests have it.
-const DESK: [(&str, &str); 31] = [
+const DESK: [(&str, &str); 43] = [
     ("grant", "Grant"),
     ("grant-no-steps", "row 10: Grant, no steps, no premises"),
     ("grant-other-agent", "row 11: Grant, agent 1"),
@@ -48,6 +48,18 @@ const DESK: [(&str, &str); 31] = [
     ("grant-refined-by-duty", "28: Grant, refined by a duty done"),
     ("grant-refined-by-supposing", "28: Grant, refined by supposing"),
     ("shared-log", "Shared log"),
+    ("twice-reported", "Twice, a report for each use"),
+    ("twice-not-reported", "31: Twice, a report not made"),
+    ("twice-report-struck", "31: Twice, a report struck out"),
+    ("twice-report-unseen", "31: Twice, a report unseen"),
+    ("visit-row-of-another-action", "31: Visit, a row of another action"),
+    ("creator-not-reported", "31: Creator, a report not made"),
+    ("creator-reported", "Creator, a report made"),
+    ("twice-one-report", "32: Twice, one report for two uses"),
+    ("twice-one-report-once", "Twice, one report for two duties owed once"),
+    ("grant-duty-no-hour", "7: Grant, a duty without a due hour"),
+    ("grant-duty-no-such-row", "7: Grant, a duty done beyond the log"),
+    ("grant-no-hour", "9: Grant, no audit hour"),
 ];
 
 pub fn all() -> Vec<Vector> {

@@ -1,9 +1,9 @@
 //! Random cases with rows that the agent does not see, and files that are alike to the agent.
 
-use crate::builder::{CaseFile, LogRow};
-use crate::checker::{admit, Verdict, ABSENT};
+use crate::builder::{CaseFile, LogRow, Obligation};
+use crate::checker::{admit, owed, Verdict, ABSENT};
 use crate::damages::damage_case;
-use crate::justifications::{citing_hidden_rows, others, passing, slipping};
+use crate::justifications::{citing_hidden_rows, failing_duties, others, passing, slipping};
 use crate::random::Random;
 
 /// The numbers that a log row may have for its action.
@@ -50,11 +50,13 @@ fn alike(case: &CaseFile, random: &mut Random) -> CaseFile {
     })
 }
 
-/// Passing cases, cases that cite hidden rows, and cases with other slips; every second damaged.
+/// Passing cases, cases that cite hidden rows, with duties that were not done, and with other slips;
+/// about every second damaged.
 pub fn random_case(turn: usize, random: &mut Random) -> CaseFile {
-    let mut case = match turn % 8 {
+    let mut case = match turn % 9 {
         0..=2 => passing(random),
         3..=5 => citing_hidden_rows(random),
+        6 => failing_duties(random),
         _ => slipping(random),
     };
     if turn % 2 == 1 {
@@ -67,6 +69,54 @@ pub fn random_case(turn: usize, random: &mut Random) -> CaseFile {
 pub fn random_pair(turn: usize, random: &mut Random) -> [Vec<u8>; 2] {
     let case = random_case(turn, random);
     [case.to_bytes(), alike(&case, random).to_bytes()]
+}
+
+/// A case whose duties name rows of every kind, expired or not, and one that differs in what the
+/// agent cannot see. About a fourth of them owe nothing.
+pub fn pair_with_duties(random: &mut Random) -> [CaseFile; 2] {
+    let case = match random.below(4) {
+        0 => failing_duties(random),
+        1 => owing_nothing(passing(random)),
+        _ => passing(random),
+    };
+    let mut case = with_hidden_rows(case, random);
+    for _ in 0..=random.below(3) {
+        let duty = naming_a_row(&case, random);
+        case.obligations.push(duty);
+    }
+    let other = alike(&case, random);
+    [case, other]
+}
+
+/// The case without steps, for an action of its book that owes nothing. Where there is none it is as
+/// it was.
+fn owing_nothing(case: CaseFile) -> CaseFile {
+    let Ok(admitted) = admit(&case.to_bytes()) else { return case };
+    let owes = |number: &u16| owed(&admitted.book[*number as usize], admitted.agent).is_some();
+    let actions = row_actions(&case).into_iter().filter(|number| *number != ABSENT);
+    let Some(action) = actions.into_iter().find(|number| !owes(number)) else { return case };
+    case.change(|case| {
+        case.action = action;
+        case.steps.clear();
+    })
+}
+
+/// A duty that names any row, and in most cases asks for the action of that row. Of those that were
+/// not done one in five is expired, and the row of an each-use one is seldom named by another.
+fn naming_a_row(case: &CaseFile, random: &mut Random) -> Obligation {
+    let number = random.below(case.rows.len()) as u16;
+    let row = &case.rows[number as usize];
+    let action = match row.action {
+        ABSENT => case.action,
+        _ if random.one_in(4) => case.action,
+        action => action,
+    };
+    let done = row.action == action && row.observers.contains(&case.agent);
+    let expired = random.one_in(if done { 2 } else { 5 });
+    let due = if expired { case.hour.saturating_sub(1) } else { case.hour };
+    let taken = case.obligations.iter().any(|duty| duty.mark == 1 && duty.row == number);
+    let mark = if random.one_in(if taken { 3 } else { 2 }) { 1 } else { 2 };
+    Obligation { mark, action, due, row: number }
 }
 
 /// Demand 3 leaves out files refused by 1, 2 or 5.

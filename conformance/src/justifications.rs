@@ -1,8 +1,10 @@
 //! Random justifications that pass: a proof of what is owed is made from its end, each formula by
 //! a rule picked at random, over a log, conditions, obligations and labels that grow with it.
 //!
-//! A slip is a fault of reasoning in a case whose records are all in order.
+//! A slip is a fault of reasoning in a case whose records are all in order, or a duty that is not
+//! done.
 
+mod duties;
 mod tautologies;
 
 use std::collections::BTreeSet;
@@ -27,7 +29,8 @@ struct Hypothesis {
 /// What a slip is: something supposed for good, a row cited that is hidden, struck or about others,
 /// an owner step over a data variable, a premise of another kind or about another party, an
 /// instance by another argument, a refinement on other grounds than logic, an each-use obligation
-/// or label used twice, a parameter that is not free.
+/// or label used twice, a parameter that is not free, an expired duty that is not done, two each-use
+/// duties done by one row.
 #[derive(Clone, Copy, PartialEq)]
 enum Slip {
     Supposed,
@@ -42,10 +45,12 @@ enum Slip {
     Obligation,
     Label,
     Parameter,
+    NotDone,
+    OneRow,
 }
 
-/// Those from `Variable` on are tried more often: the last three need more to come together.
-const SLIPS: [Slip; 20] = [
+/// Most of those from `Variable` on are tried more often: some need more to come together.
+const SLIPS: [Slip; 24] = [
     Slip::Supposed,
     Slip::Hidden,
     Slip::Struck,
@@ -66,6 +71,10 @@ const SLIPS: [Slip; 20] = [
     Slip::Label,
     Slip::Parameter,
     Slip::Parameter,
+    Slip::NotDone,
+    Slip::OneRow,
+    Slip::OneRow,
+    Slip::OneRow,
 ];
 
 struct Maker<'a> {
@@ -100,6 +109,12 @@ pub fn refining_on_grounds(random: &mut Random) -> CaseFile {
     made(random, Some(Slip::Grounds))
 }
 
+/// A case with duties that are expired and not done, or that share a row, or none.
+pub fn failing_duties(random: &mut Random) -> CaseFile {
+    let slip = random.pick(&[Slip::NotDone, Slip::OneRow]);
+    made(random, Some(slip))
+}
+
 /// Tries until everything keeps within the limits of a file.
 fn made(random: &mut Random, slip: Option<Slip>) -> CaseFile {
     loop {
@@ -121,6 +136,7 @@ impl Maker<'_> {
         for _ in 0..self.random.below(4) {
             self.add_unused()?;
         }
+        self.set_hours()?;
         self.case.formulas = self.book.rows;
         let within = self.case.conditions.len() <= 64
             && self.case.obligations.len() <= 64
@@ -327,8 +343,8 @@ impl Maker<'_> {
                 self.label(0, policy);
             }
             1 => {
-                let (mark, action) = (self.random.below(2), self.ground_action()?);
-                self.case.obligations.push((mark as u16 + 1, action));
+                let (mark, action) = (1 + self.random.below(2) as u16, self.ground_action()?);
+                self.case.obligations.push(Obligation::new(mark, action));
             }
             2 => self.case.conditions.push(ABSENT),
             _ => {
@@ -461,18 +477,18 @@ impl Maker<'_> {
 
     fn by_obligation(&mut self, goal: u16) -> Option<u16> {
         let known = !self.case.obligations.is_empty();
-        let (mark, action) = match known && !self.random.one_in(3) {
+        let duty = match known && !self.random.one_in(3) {
             true => self.random.pick(&self.case.obligations),
-            false => (1 + self.random.below(2) as u16, self.ground_action()?),
+            false => Obligation::new(1 + self.random.below(2) as u16, self.ground_action()?),
         };
-        let number = match mark == 2 || self.slips(Slip::Obligation) {
-            true => entry(self.random, &mut self.case.obligations, (mark, action)),
+        let number = match duty.mark == 2 || self.slips(Slip::Obligation) {
+            true => entry(self.random, &mut self.case.obligations, duty),
             false => {
-                self.case.obligations.push((mark, action));
+                self.case.obligations.push(duty);
                 self.case.obligations.len() as u16 - 1
             }
         };
-        let premise = self.demand(mark, action, goal)?;
+        let premise = self.demand(duty.mark, duty.action, goal)?;
         self.step(BY_OBLIGATION, goal, number, &[premise])
     }
 

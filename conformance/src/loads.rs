@@ -42,6 +42,8 @@ pub fn loads() -> Vec<Load> {
         load("rule 5, 27 at the last step", strays_refused()),
         load("rule 4, tautologies", refinements()),
         load("rule 4, 28 at the last step", refinements_refused()),
+        load("check 31, 4,096 observers", duties_done(2, 1)),
+        load("check 32, 64 rows", duties_done(1, 64)),
     ]
 }
 
@@ -391,6 +393,16 @@ fn refinements_refused() -> CaseFile {
     filled(rounds)
 }
 
+/// Checks 31 and 32 where nothing is owed: 64 duties of this mark are expired, and were done by so
+/// many rows, which share 4,096 observers. In each the agent comes last.
+fn duties_done(mark: u16, rows: u16) -> CaseFile {
+    let agent = *Term::AGENTS.end();
+    let observers: Vec<u16> = (0..4_096 / rows - 1).chain([agent]).collect();
+    let case = CaseFile::new(agent).formula("0 acts", user_action(1, &[0])).audits("0 acts");
+    let case = (0..rows).fold(case, |case, _| case.row("0 acts", &observers));
+    (0..64).fold(case, |case, duty| case.expired(mark, "0 acts", duty % rows))
+}
+
 // ---- Growth ----
 
 /// A pass of so many eighths of the full size. Each eighth has the same mix of formulas, log rows
@@ -405,7 +417,7 @@ pub fn eighths(count: u16) -> CaseFile {
 
 fn add_eighth(rounds: &mut Rounds, eighth: u16) {
     let objects = move || (16 * eighth..16 * (eighth + 1)).map(data);
-    let demand = rounds.demand();
+    let demand = rounds.demand(8 * eighth);
     let told = rounds.communicates(1, demand, AGENT);
     for round in 0..8 {
         let first = rounds.case.rows.len() as u16;

@@ -1,16 +1,17 @@
 //! Changes to a case file that keep its layout, for the fuzzer: a field, a record, or a step more.
 
 use crate::builder::{agent_parameter, data, data_parameter, data_variable};
-use crate::checker::{ABSENT, HEADER_BYTES, PARTS};
+use crate::checker::{pair_at, ABSENT, ACTION_AT, AGENT_AT, HEADER_BYTES, HOUR_AT, PARTS};
 use crate::random::Random;
 
 const ROWS: usize = 1;
 const STEPS: usize = 6;
 const PREMISES: usize = 7;
 
-/// A file taken apart: the agent, the audited action, and the records of each part.
+/// A file taken apart: its header, of which the pairs are laid out anew, and the records of each
+/// part.
 struct Parts {
-    audit: [u8; 4],
+    header: Vec<u8>,
     records: [Vec<Vec<u8>>; 8],
 }
 
@@ -52,24 +53,23 @@ fn telling(random: &mut Random, before: usize) -> usize {
 
 impl Parts {
     fn read(file: &[u8]) -> Option<Parts> {
-        let audit = file.get(..4)?.try_into().ok()?;
-        let mut rest = file.get(HEADER_BYTES..)?;
+        let (header, mut rest) = file.split_at_checked(HEADER_BYTES)?;
         let mut records: [Vec<Vec<u8>>; 8] = Default::default();
         for (place, (record, _)) in PARTS.into_iter().enumerate() {
-            let (part, behind) = rest.split_at_checked(word(file, 4 * place + 6))?;
+            let (part, behind) = rest.split_at_checked(word(header, pair_at(place) + 2))?;
             records[place] = part.chunks_exact(record).map(<[u8]>::to_vec).collect();
             rest = behind;
         }
-        rest.is_empty().then_some(Parts { audit, records })
+        rest.is_empty().then_some(Parts { header: header.to_vec(), records })
     }
 
     fn write(&self) -> Vec<u8> {
-        let mut file = self.audit.to_vec();
+        let mut file = self.header.clone();
         let mut offset = HEADER_BYTES;
         for (place, (record, _)) in PARTS.into_iter().enumerate() {
             let length = record * self.records[place].len();
-            file.extend((offset as u16).to_le_bytes());
-            file.extend((length as u16).to_le_bytes());
+            set_word(&mut file, pair_at(place), offset);
+            set_word(&mut file, pair_at(place) + 2, length);
             offset += length;
         }
         file.extend(self.records.iter().flatten().flatten());
@@ -84,7 +84,7 @@ impl Parts {
         let at = 2 * random.below(PARTS[place].0 / 2);
         match random.below(10) {
             0 => self.add_step(random),
-            1 => set_word(&mut self.audit, 2 * random.below(2), random.below(32)),
+            1 => self.change_header(random),
             2 => records.insert(one, self_or_zeros(records, other, PARTS[place].0)),
             _ if count == 0 => (),
             3 => _ = records.remove(one),
@@ -99,6 +99,16 @@ impl Parts {
                 set_word(&mut records[one], at, telling(random, before));
             }
         }
+    }
+
+    /// Another agent, action or hour.
+    fn change_header(&mut self, random: &mut Random) {
+        let at = random.pick(&[AGENT_AT, ACTION_AT, HOUR_AT]);
+        let value = match at {
+            HOUR_AT => telling(random, word(&self.header, at)),
+            _ => random.below(32),
+        };
+        set_word(&mut self.header, at, value);
     }
 
     /// A step of any rule, from the last one or from none.

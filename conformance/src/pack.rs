@@ -6,25 +6,32 @@ use crate::checker::{check, size_column, Refusal, Verdict};
 use crate::columns::{answer, book_of};
 use crate::damages::damaged;
 use crate::examples;
+use crate::full_size::largest;
 use crate::indexes::due;
-use crate::justifications::{passing, slipping};
+use crate::justifications::{failing_duties, passing, slipping};
 use crate::loads::{index_loads, loads};
+use crate::old_layout::old_vectors;
 use crate::random::{damage, Random};
 
-/// The examples, the vectors, and the loads.
+/// The examples, the vectors, those of the old layout too, the loads, the largest file, and that with
+/// a byte more.
 pub fn known_files() -> Vec<Vec<u8>> {
-    let vectors = examples_and_vectors().into_iter().chain(examples::all());
+    let vectors = examples_and_vectors().into_iter().chain(examples::all()).chain(old_vectors());
     let loads = loads().into_iter().chain(index_loads()).map(|load| load.case.to_bytes());
-    vectors.map(|vector| vector.file).chain(loads).collect()
+    let largest = largest().to_bytes();
+    let larger = [&largest[..], &[0]].concat();
+    vectors.map(|vector| vector.file).chain(loads).chain([largest, larger]).collect()
 }
 
-/// A random justification: it passes, it has a slip, or a field or any bytes are damaged.
+/// A random justification: it passes, it has a slip, its duties fail, or a field or any bytes are
+/// damaged.
 pub fn random_file(random: &mut Random) -> Vec<u8> {
-    match random.below(8) {
+    match random.below(9) {
         0 | 1 => passing(random).to_bytes(),
         2 => slipping(random).to_bytes(),
         3 | 4 => damage(&passing(random).to_bytes(), random),
         5 => (0..random.below(100)).map(|_| random.below(256) as u8).collect(),
+        6 => failing_duties(random).to_bytes(),
         _ => damaged(&passing(random), random).1,
     }
 }

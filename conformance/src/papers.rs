@@ -27,7 +27,7 @@ fn paper_000() -> Vec<Vector> {
     });
     let other = related().change(|case| case.labels[1].1 = case.number("print"));
     let uncertified = drink().change(|case| case.conditions[0] = ABSENT);
-    let once = drink().change(|case| case.obligations[0].0 = 2);
+    let once = drink().change(|case| case.obligations[0].mark = 2);
     vec![
         passed("000-example-2", related(), &[], &[0]),
         refused("000-example-2-not-refined", unrefined, 27, 5),

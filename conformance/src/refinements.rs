@@ -71,7 +71,7 @@ pub fn is_right_about_refining(file: &[u8], verdict: Verdict) -> bool {
         Verdict::Refused { number: 12..=19 | 24..=26, place } => {
             first_refined_by_more(&steps(file), place as usize).is_none()
         }
-        Verdict::Passed { .. } | Verdict::Refused { number: 20..=23, .. } => {
+        Verdict::Passed { .. } | Verdict::Refused { number: 20..=23 | 31 | 32, .. } => {
             let case = steps(file);
             first_refined_by_more(&case, case.steps.len()).is_none()
         }

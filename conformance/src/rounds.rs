@@ -26,7 +26,7 @@ impl Rounds {
         let case = CaseFile {
             action,
             conditions: vec![p; 64],
-            obligations: vec![(1, action); 64],
+            obligations: vec![Obligation::new(1, action); 64],
             labels: vec![(0, p); 32],
             ..CaseFile::new(AGENT)
         };
@@ -65,10 +65,10 @@ impl Rounds {
         row
     }
 
-    /// "P implies P, once the audited action is done, at each use".
-    pub fn demand(&mut self) -> u16 {
+    /// "P implies P, once the obligation's action is done, at each use".
+    pub fn demand(&mut self, obligation: u16) -> u16 {
         let implication = self.pair(5, self.p, self.p);
-        self.pair(6, self.case.action, implication)
+        self.pair(6, self.case.obligations[obligation as usize].action, implication)
     }
 
     /// "Agent says so to 1" of these data, by the owner, who created them in the rows from this one
@@ -88,9 +88,9 @@ impl Rounds {
         self.last = self.step(LEFT, self.p, ABSENT, &[and]);
     }
 
-    /// By the demand, as agent 1 tells it in this row, and an obligation.
+    /// By an obligation, and the demand for it, as agent 1 tells it in this row.
     pub fn obligation_round(&mut self, obligation: u16, row: u16) {
-        let demand = self.demand();
+        let demand = self.demand(obligation);
         let said = self.says(1, demand, AGENT);
         let implication = self.pair(5, self.p, self.p);
         let seen = self.step(SEEN, said, row, &[]);

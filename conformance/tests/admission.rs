@@ -1,10 +1,13 @@
 //! Checks 1 to 11 at their edges, and the sizes of formulas.
 
 use conformance::builder::*;
-use conformance::cases::grant;
-use conformance::checker::{admit, admit_book, check, size_column};
-use conformance::checker::{Refusal, Verdict, ABSENT, MOST_BYTES};
+use conformance::cases::{examples_and_vectors, grant};
+use conformance::checker::{admit, admit_book, check, number_at, size_column};
+use conformance::checker::{Refusal, Verdict, ABSENT, HEADER_BYTES, MOST_BYTES, PARTS};
+use conformance::checker::{ACTION_AT, AGENT_AT, HOUR_AT};
 use conformance::columns;
+use conformance::mutator::mutated;
+use conformance::random::Random;
 
 const NO: u16 = ABSENT;
 
@@ -46,38 +49,66 @@ fn changed(change: impl FnOnce(&mut CaseFile)) -> Option<(u16, u16)> {
     answer(admit(&grant().change(change).to_bytes()))
 }
 
+/// The documents' figures: a header of 38 bytes, and "the largest file has 47,910".
 #[test]
 fn file_lengths() {
-    assert_eq!(answer(admit(&[0; 35])), Some((1, 0)));
-    assert_eq!(answer(admit(&[0; 36])), Some((2, 0)));
+    assert_eq!((HEADER_BYTES, MOST_BYTES), (38, 47_910));
+    let parts = PARTS.map(|(record, most)| record * most);
+    assert_eq!(HEADER_BYTES + parts.iter().sum::<usize>(), MOST_BYTES);
+    assert_eq!(answer(admit(&[0; HEADER_BYTES - 1])), Some((1, 0)));
+    assert_eq!(answer(admit(&[0; HEADER_BYTES])), Some((2, 0)));
     assert_eq!(answer(admit(&[0; MOST_BYTES])), Some((2, 0)));
     assert_eq!(answer(admit(&[0; MOST_BYTES + 1])), Some((1, 0)));
 }
 
 #[test]
 fn parts() {
+    let laid_out = |place: usize, offset: u16, length: u16| {
+        let due = grant().pairs()[place].0;
+        changed(|case| case.header[place] = Some((due + offset, length)))
+    };
     assert_eq!(changed(|_| ()), None);
-    assert_eq!(changed(|case| case.header[0] = Some((36, 39))), Some((2, 0)));
-    assert_eq!(changed(|case| case.header[4] = Some((85, 0))), Some((2, 4)));
-    assert_eq!(changed(|case| case.header[6] = Some((84, 30))), Some((2, 6)));
-    assert_eq!(changed(|case| case.header[7] = Some((104, 0))), Some((2, 7)));
-    assert_eq!(changed(|case| case.header[7] = Some((104, 4))), Some((2, 7)));
+    assert_eq!(laid_out(0, 0, 40), None);
+    assert_eq!(laid_out(0, 0, 39), Some((2, 0)));
+    assert_eq!(laid_out(4, 1, 0), Some((2, 4)));
+    assert_eq!(laid_out(6, 0, 30), Some((2, 6)));
+    assert_eq!(laid_out(7, 0, 0), Some((2, 7)));
+    assert_eq!(laid_out(7, 0, 4), Some((2, 7)));
     assert_eq!(changed(|case| case.conditions = vec![ABSENT; 64]), None);
     assert_eq!(changed(|case| case.conditions = vec![ABSENT; 65]), Some((2, 3)));
 }
 
 #[test]
 fn observers_need_rows_and_premises_steps() {
-    let observers = |case: &mut CaseFile| {
-        case.header[1] = Some((76, 0));
-        case.header[2] = Some((76, 8));
+    let as_entries = |place: usize| {
+        changed(|case| {
+            let [(offset, records), (_, entries)] = [case.pairs()[place], case.pairs()[place + 1]];
+            case.header[place] = Some((offset, 0));
+            case.header[place + 1] = Some((offset, records + entries));
+        })
     };
-    assert_eq!(changed(observers), Some((2, 2)));
-    let premises = |case: &mut CaseFile| {
-        case.header[6] = Some((84, 0));
-        case.header[7] = Some((84, 22));
-    };
-    assert_eq!(changed(premises), Some((2, 7)));
+    assert_eq!(as_entries(1), Some((2, 2)));
+    assert_eq!(as_entries(6), Some((2, 7)));
+}
+
+/// What the fuzzer's changes make of a file that checks 1 and 2 let pass, they let pass again, but
+/// for entries whose records have gone; other agents, actions and hours are among them.
+#[test]
+fn changes_that_keep_the_layout() {
+    let mut random = Random(0x1F83_D9AB_FB41_BD6B);
+    let is_laid_out = |file: &[u8]| !matches!(answer(admit(file)), Some((1 | 2, _)));
+    let mut other = [0; 3];
+    for vector in examples_and_vectors().iter().filter(|vector| is_laid_out(&vector.file)) {
+        for _ in 0..20 {
+            let file = mutated(&vector.file, &mut random).expect("its parts adjoin");
+            let refused = answer(admit(&file));
+            assert!(matches!(refused, Some((2, 2 | 7))) || is_laid_out(&file), "{refused:?}");
+            for (count, at) in other.iter_mut().zip([AGENT_AT, ACTION_AT, HOUR_AT]) {
+                *count += usize::from(number_at(&file, at) != number_at(&vector.file, at));
+            }
+        }
+    }
+    assert!(other.iter().all(|times| *times >= 300), "{other:?}");
 }
 
 /// The first and last term of each range, and the numbers next to them.
@@ -306,10 +337,10 @@ fn conditions_obligations_and_labels() {
     for number in [0, 1, 5, 6, 7, 10] {
         assert_eq!(condition(number), Some((6, 1)));
     }
-    let obligation = |record| {
+    let obligation = |(mark, action)| {
         changed(|case| {
             with_terms(case);
-            case.obligations = vec![(2, 0), record];
+            case.obligations = vec![Obligation::new(2, 0), Obligation::new(mark, action)];
         })
     };
     assert_eq!(obligation((1, 0)), None);
@@ -330,11 +361,40 @@ fn conditions_obligations_and_labels() {
     }
 }
 
+/// Every hour but the absent one, and every row of the log, of none, one and two rows. What is not
+/// due may name any of them.
 #[test]
-fn agent_and_action() {
+fn due_hours_and_rows() {
+    let duty = |due: u16, row: u16, rows: usize| {
+        changed(|case| {
+            case.rows = vec![case.rows[0].clone(); rows];
+            case.obligations =
+                vec![Obligation::new(2, 0), Obligation { mark: 1, action: 0, due, row }];
+        })
+    };
+    for due in [0, 1, HOUR, ABSENT - 1] {
+        assert_eq!(duty(due, ABSENT, 1), None);
+    }
+    assert_eq!(duty(ABSENT, ABSENT, 1), Some((7, 1)));
+    assert_eq!(duty(ABSENT, 0, 1), Some((7, 1)));
+    for rows in [0, 1, 2] {
+        for row in [0, 1, 2, 3, ABSENT - 1] {
+            let due = if (row as usize) < rows { None } else { Some((7, 1)) };
+            assert_eq!(duty(HOUR, row, rows), due, "row {row} of {rows}");
+        }
+        assert_eq!(duty(HOUR, ABSENT, rows), None);
+    }
+}
+
+#[test]
+fn agent_action_and_hour() {
     assert_eq!(changed(|case| case.agent = 16_383), None);
     assert_eq!(changed(|case| case.agent = 16_384), Some((9, 0)));
     assert_eq!(changed(|case| case.action = ABSENT), Some((9, 0)));
+    for hour in [0, 1, ABSENT - 1] {
+        assert_eq!(changed(|case| case.hour = hour), None);
+    }
+    assert_eq!(changed(|case| case.hour = ABSENT), Some((9, 0)));
     let with_parameter = |case: &mut CaseFile| {
         with_terms(case);
         case.action = 8;

@@ -9,7 +9,7 @@ use std::thread;
 
 use conformance::builder::{user_action, CaseFile};
 use conformance::cases::ROOM;
-use conformance::checker;
+use conformance::checker::{self, ABSENT};
 use conformance::columns::{self, book_of, lent, Sizer};
 use conformance::indexes::{building, through, Builder, IndexedChecker, MOST_ENTRIES};
 use conformance::pack::{known_files, random_file, record};
@@ -63,23 +63,27 @@ fn guard_pages() {
     assert!(text.starts_with(&format!("{} files, ", files.len())), "{text}");
 }
 
-/// The file that `attack/faulty.c` knows. Agent 1 owes nothing for what agent 0 has done.
-fn known_to_the_stand_in() -> Vec<u8> {
+/// The files that `attack/faulty.c` knows. Agent 1 owes nothing for what agent 0 has done; in the
+/// second one it has a duty that is expired and not done.
+fn known_to_the_stand_in() -> [CaseFile; 2] {
     let case = CaseFile::new(1).formula("0 acts", user_action(0, &[0])).audits("0 acts");
-    case.row("0 acts", &[0]).to_bytes()
+    let case = case.row("0 acts", &[0]);
+    [case.clone(), case.expired(1, "0 acts", ABSENT)]
 }
 
 /// Each fault of `attack/faulty.c` is caught, by a guard page (2) or by what the harness compares
 /// (1); and no fault is none.
 #[test]
 fn guard_pages_catch_faults() {
-    for fault in 0..37 {
+    let known = known_to_the_stand_in().map(|case| case.to_bytes());
+    let files: Vec<Vec<u8>> = [vec![0]].into_iter().chain(known).collect();
+    for fault in 0..43 {
         let define = format!("-DFAULT={fault}");
         let harness = harness(&format!("guard-{fault}"), &[&define, "faulty.c"]);
-        let output = run(&harness, &[vec![0], known_to_the_stand_in()]);
+        let output = run(&harness, &files);
         let status = match fault {
             0 => 0,
-            5 | 7 | 11..=13 | 17..=20 | 22..=24 | 31..=36 => 1,
+            5 | 7 | 11..=13 | 17..=20 | 22..=24 | 31..=36 | 38..=42 => 1,
             _ => 2,
         };
         assert_eq!(output.status.code(), Some(status), "fault {fault}");

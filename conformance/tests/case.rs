@@ -3,9 +3,10 @@
 use std::collections::{BTreeMap, BTreeSet};
 use std::thread;
 
-use conformance::builder::{data, CaseFile, FormulaRow, LogRow, Step};
+use conformance::builder::{data, CaseFile, FormulaRow, LogRow, Obligation, Step, HOUR};
 use conformance::cases::{examples_and_vectors, grant, twice, visit};
-use conformance::checker::{admit, ABSENT, HEADER_BYTES, PARTS};
+use conformance::checker::{admit, number_at, pair_at, ABSENT, HEADER_BYTES, HOUR_AT};
+use conformance::checker::{MOST_BYTES, PARTS};
 use conformance::columns::book_of;
 use conformance::desk::words::check_refusals;
 use conformance::proved;
@@ -22,14 +23,12 @@ fn agree(file: &[u8]) -> Answer {
 
 /// A file of so many bytes in each part, all of them 0.
 fn blank(sizes: [usize; 8]) -> Vec<u8> {
-    let mut file = vec![0, 0, 0, 0];
-    let mut offset = HEADER_BYTES;
-    for size in sizes {
-        file.extend((offset as u16).to_le_bytes());
-        file.extend((size as u16).to_le_bytes());
-        offset += size;
+    let mut file = vec![0; HEADER_BYTES];
+    for (place, size) in sizes.into_iter().enumerate() {
+        let pair = [file.len(), size].map(|number| (number as u16).to_le_bytes());
+        file[pair_at(place)..][..4].copy_from_slice(&pair.concat());
+        file.resize(file.len() + size, 0);
     }
-    file.resize(offset, 0);
     file
 }
 
@@ -54,7 +53,8 @@ fn full() -> CaseFile {
         case.rows.push(LogRow { action, observers: vec![0, 1, 2 + number % 2, 9], span: None });
     }
     case.conditions = vec![0; 64];
-    case.obligations = vec![(1, 1); 64];
+    case.obligations =
+        (0..64).map(|k| Obligation { row: 1_023 - k, ..Obligation::new(1, 1) }).collect();
     case.labels = vec![(0, 0); 32];
     let step = Step { rule: 0, formula: 0, argument: 0, premises: vec![0], span: None };
     case.steps = vec![step; 2048];
@@ -83,12 +83,12 @@ fn each_part_faulty_in_each_way() {
     for case in [grant(), visit(), twice()] {
         for place in 0..8 {
             let file = case.to_bytes();
-            let at = |i: usize| u16::from_le_bytes([file[4 * place + i], file[4 * place + i + 1]]);
-            let (offset, size) = (at(4), at(6));
+            let (offset, size) = case.pairs()[place];
             let record = PARTS[place].0 as u16;
             let whole = file.len() as u16;
             let near = |n: u16| [n.wrapping_sub(1), n + 1, n.wrapping_sub(record), n + record];
-            let mut numbers = vec![0, 1, 36, whole, whole - 1, whole + 1, 65_534, 65_535];
+            let header = HEADER_BYTES as u16;
+            let mut numbers = vec![0, 1, header, whole, whole - 1, whole + 1, 65_534, 65_535];
             numbers.extend(near(offset));
             numbers.extend(near(size));
             for number in numbers {
@@ -121,7 +121,7 @@ fn parts_at_their_limits() {
         }
     }
     let most = PARTS.map(|(record, most)| record * most);
-    assert_eq!(blank(most).len(), 47_652);
+    assert_eq!(blank(most).len(), MOST_BYTES);
     let mut long = blank(most);
     assert_ne!(agree(&long), Err((1, 0)));
     long.push(0);
@@ -134,7 +134,7 @@ fn parts_at_their_limits() {
 #[test]
 fn every_truncation() {
     let full = full().to_bytes();
-    assert_eq!(full.len(), 47_652);
+    assert_eq!(full.len(), MOST_BYTES);
     for file in [grant().to_bytes(), visit().to_bytes(), full] {
         assert_eq!(agree(&file), Ok(()));
         for length in 0..file.len() {
@@ -147,7 +147,8 @@ fn every_truncation() {
 #[test]
 fn one_byte_everywhere() {
     for byte in 0..=255 {
-        for length in [0, 1, 35, 36, 37, 100, 1_000, 47_651, 47_652, 47_653, 70_000] {
+        let near = [HEADER_BYTES, MOST_BYTES].into_iter().flat_map(|edge| edge - 1..=edge + 1);
+        for length in near.chain([0, 1, 100, 1_000, 70_000]) {
             assert!(agree(&vec![byte; length]).is_err());
         }
     }
@@ -162,6 +163,30 @@ fn absent_is_not_formula_0() {
     assert_eq!(agree(&with(0).to_bytes()), Err((6, 0)));
     assert_eq!(agree(&with(2).to_bytes()), Ok(()));
     assert_eq!(agree(&with(65_534).to_bytes()), Err((6, 0)));
+}
+
+/// Every hour but the absent one; and an obligation's row, which is one of the log or absent.
+#[test]
+fn hours_and_rows_of_obligations() {
+    let numbers = [0, 1, 2, HOUR, 16_384, ABSENT - 1, ABSENT];
+    for number in numbers {
+        let hour = grant().change(|case| case.hour = number);
+        let due = if number == ABSENT { Err((9, 0)) } else { Ok(()) };
+        assert_eq!(agree(&hour.to_bytes()), due);
+        assert_eq!(number_at(&hour.to_bytes(), HOUR_AT), number);
+        let two = || grant().obligation(2, "0 creates").obligation(1, "0 creates");
+        let late = two().change(|case| case.obligations[1].due = number);
+        let due = if number == ABSENT { Err((7, 1)) } else { Ok(()) };
+        assert_eq!(agree(&late.to_bytes()), due);
+        for rows in [0, 1, 2] {
+            let named = two().change(|case| {
+                case.rows = vec![case.rows[0].clone(); rows];
+                case.obligations[1].row = number;
+            });
+            let there = number == ABSENT || (number as usize) < rows;
+            assert_eq!(agree(&named.to_bytes()), if there { Ok(()) } else { Err((7, 1)) });
+        }
+    }
 }
 
 #[test]
@@ -219,7 +244,10 @@ fn random_case(random: &mut Random) -> CaseFile {
         case.conditions.push(or_absent(condition, random));
     }
     for _ in 0..random.below(3) {
-        case.obligations.push((random.below(4) as u16, number(random)));
+        let (mark, action) = (random.below(4) as u16, number(random));
+        let due = or_absent(random.below(3) as u16, random);
+        let row = or_absent(random.below(case.rows.len() + 1) as u16, random);
+        case.obligations.push(Obligation { mark, action, due, row });
     }
     for _ in 0..random.below(3) {
         case.labels.push((random.below(4) as u16, number(random)));

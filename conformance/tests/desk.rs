@@ -4,14 +4,16 @@ use std::collections::BTreeSet;
 use std::fs;
 use std::process::{Command, Output};
 
-use conformance::builder::{CaseFile, FormulaRow};
+use conformance::builder::{user_action, CaseFile, FormulaRow, Obligation};
 use conformance::cases::{examples_and_vectors, grant, ROOM};
-use conformance::checker::{check, Verdict, ABSENT, HEADER_BYTES, PARTS};
+use conformance::checker::{check, number_at, pair_at, Verdict};
+use conformance::checker::{ABSENT, ACTION_AT, AGENT_AT, HEADER_BYTES, HOUR_AT, PARTS};
 use conformance::damages::damaged;
+use conformance::desk::reading::read;
 use conformance::desk::{records::RULES, show::show, text::text, words, write::write};
 use conformance::examples::{all, folder};
 use conformance::full_size::full_size;
-use conformance::justifications::{passing, refining_on_grounds, slipping};
+use conformance::justifications::{failing_duties, passing, refining_on_grounds, slipping};
 use conformance::misfits;
 use conformance::random::{damage, Random};
 use conformance::streams;
@@ -133,6 +135,182 @@ fn refinements_on_other_grounds() {
     assert_eq!(found.len(), 8, "{found:?}");
 }
 
+/// Agent 0's duty to report, once for each of these hours and rows, over a log of five rows: agent 0
+/// sees a row of another action, a report and a row that is struck out, and does not see a report and
+/// a row that is struck out.
+fn to_report(duties: &[(u16, u16)]) -> CaseFile {
+    let mut case = grant().formula("0 reports", user_action(3, &[0]));
+    let action = case.number("0 reports");
+    for observers in [[0], [0], [1], [1]] {
+        case = case.row("0 reports", &observers);
+    }
+    for row in [2, 4] {
+        case.rows[row].action = ABSENT;
+    }
+    case.obligations = duties
+        .iter()
+        .map(|(due, row)| Obligation { mark: 1, action, due: *due, row: *row })
+        .collect();
+    case
+}
+
+/// The obligations of a file as they are shown, without their numbers.
+fn shown_obligations(file: &[u8]) -> Vec<String> {
+    let shown = show(file);
+    let lines = shown.lines().skip_while(|line| *line != "Obligations").skip(1);
+    let lines = lines.take_while(|line| !line.is_empty());
+    lines.map(|line| line.trim_start().split_once("  ").expect("a number").1.to_string()).collect()
+}
+
+/// Done, overdue or neither, by every kind of row, and due before, at and after the audit hour.
+#[test]
+fn obligations_as_shown() {
+    let told = [
+        (49, ABSENT, "overdue   !act3(a0)  [due 49, expired; no row]"),
+        (0, 0, "overdue   !act3(a0)  [due 0, expired; row 0, seen: a0 creates d0]"),
+        (49, 1, "done      !act3(a0)  [due 49, expired; row 1, seen: act3(a0)]"),
+        (49, 2, "overdue   !act3(a0)  [due 49, expired; row 2, seen: struck out]"),
+        (49, 3, "overdue   !act3(a0)  [due 49, expired; row 3, hidden: act3(a0)]"),
+        (49, 4, "overdue   !act3(a0)  [due 49, expired; row 4, hidden: struck out]"),
+        (49, 5, "overdue   !act3(a0)  [due 49, expired; row 5, not in the log]"),
+        (50, ABSENT, "not done  !act3(a0)  [due 50, not expired; no row]"),
+        (50, 1, "done      !act3(a0)  [due 50, not expired; row 1, seen: act3(a0)]"),
+        (65_534, 3, "not done  !act3(a0)  [due 65534, not expired; row 3, hidden: act3(a0)]"),
+        (ABSENT, ABSENT, "not done  !act3(a0)  [no due hour; no row]"),
+        (ABSENT, 1, "done      !act3(a0)  [no due hour; row 1, seen: act3(a0)]"),
+    ];
+    let mut case = to_report(&told.map(|(due, row, _)| (due, row)));
+    assert_eq!(shown_obligations(&case.to_bytes()), told.map(|(_, _, line)| line));
+    case.hour = ABSENT;
+    let of_no_hour = told.map(|(_, _, line)| {
+        let line = line.replace(", expired", "").replace(", not expired", "");
+        line.replace("overdue ", "not done")
+    });
+    assert_eq!(shown_obligations(&case.to_bytes()), of_no_hour);
+    assert!(show(&case.to_bytes()).contains("\nAudit hour: absent\n"));
+}
+
+/// A row that is struck out does not do what an absent action asks for.
+#[test]
+fn an_absent_action_is_not_done() {
+    let case = to_report(&[(49, 2)]).change(|case| case.obligations[0].action = ABSENT);
+    let line = "overdue   !#65535  [due 49, expired; row 2, seen: struck out]";
+    assert_eq!(shown_obligations(&case.to_bytes()), [line]);
+}
+
+/// Each case that is refused by 31 or 32, of those that are known and of many that are made.
+fn failing_in_duties(number: u16) -> impl Iterator<Item = (Vec<u8>, u16)> {
+    let known = examples_and_vectors().into_iter().chain(all()).map(|example| example.file);
+    let by_row = [ABSENT, 0, 2, 3, 4].map(|row| to_report(&[(50, 1), (49, row)]).to_bytes());
+    // Only obligations 1 and 2 are owed at each use.
+    let by_mark = to_report(&[(50, 3); 3]).change(|case| case.obligations[0].mark = 2).to_bytes();
+    let mut random = Random(0xBB67_AE85_84CA_A73B);
+    let made = (0..1_000).map(move |_| failing_duties(&mut random).to_bytes());
+    known.chain(by_row).chain([by_mark]).chain(made).filter_map(move |file| {
+        match check(&file, &mut [0; ROOM]) {
+            Verdict::Refused { number: found, place } if found == number => Some((file, place)),
+            _ => None,
+        }
+    })
+}
+
+/// At the end of a case refused by 31 stand the obligation, as in the list, and why it is not done.
+#[test]
+fn duties_not_done() {
+    let mut found = BTreeSet::new();
+    for (file, place) in failing_in_duties(31) {
+        let case = read(&file).expect("its header is sound").case;
+        let (row, agent) = (case.obligations[place as usize].row, format!("a{}", case.agent));
+        let named = case.rows.get(row as usize);
+        let seen = named.map(|row| (row.observers.contains(&case.agent), row.action == ABSENT));
+        let why = match seen {
+            None => format!("It names no row. Ask {agent} for the one in which it was done."),
+            Some((false, _)) => {
+                format!("{agent} does not see row {row}, so it counts as not done.")
+            }
+            Some((true, true)) => format!("Row {row} is struck out."),
+            Some((true, false)) => format!("Row {row} has another action."),
+        };
+        let listed = &shown_obligations(&file)[place as usize];
+        assert!(listed.starts_with("overdue "), "{listed}");
+        let end = format!("{}\n  {listed}\n  {why}\n", words::meaning(31).wrong);
+        assert!(show(&file).ends_with(&end), "{}", show(&file));
+        found.insert(seen);
+    }
+    assert_eq!(found.len(), 5, "{found:?}");
+}
+
+/// At the end of a case refused by 32 stand the obligation and the first one that names its row, both
+/// as in the list.
+#[test]
+fn rows_named_twice() {
+    let mut found = BTreeSet::new();
+    for (file, place) in failing_in_duties(32) {
+        let case = read(&file).expect("its header is sound").case;
+        let row = case.obligations[place as usize].row;
+        let names_it = |duty: &Obligation| duty.mark == 1 && duty.row == row;
+        let first = case.obligations.iter().position(names_it).expect("an earlier one");
+        assert!(first < place as usize);
+        let listed = shown_obligations(&file);
+        let end = format!(
+            "{}\n  {}\n  Obligation {first} names row {row} already: {}\n",
+            words::meaning(32).wrong,
+            listed[place as usize],
+            listed[first]
+        );
+        assert!(show(&file).ends_with(&end), "{}", show(&file));
+        found.insert((first, place));
+    }
+    assert!(found.contains(&(1, 2)) && found.len() > 3, "{found:?}");
+}
+
+/// Hours and rows at their limits, and their words.
+const LIMITS: [(u16, &str); 4] = [(0, "0"), (1, "1"), (65_534, "65534"), (ABSENT, "absent")];
+
+/// In every way, there and back. A row that is absent is left out of the text.
+#[test]
+fn hours_and_rows_at_their_limits() {
+    let triples = LIMITS.into_iter().flat_map(|hour| {
+        LIMITS.into_iter().flat_map(move |due| LIMITS.map(|row| (hour, due, row)))
+    });
+    let mut files = BTreeSet::new();
+    for ((hour, at), (due, by), (row, number)) in triples {
+        let file = to_report(&[(due, row)]).change(|case| case.hour = hour).to_bytes();
+        assert!(assert_there_and_back(&file));
+        let done = if row == ABSENT { String::new() } else { format!("; done by row {number}") };
+        let text = text(&file).expect("its header is sound");
+        for line in [format!("hour {at}"), format!("obligation 0: !act3(a0); due {by}{done}")] {
+            assert_eq!(text.lines().filter(|found| *found == line).count(), 1, "{line}\n{text}");
+        }
+        files.insert(file);
+    }
+    assert_eq!(files.len(), 64);
+}
+
+/// A text without obligations may leave the hour out, and its verdict stays. It is then the last one.
+#[test]
+fn texts_without_an_hour() {
+    let mut without = 0;
+    for example in examples_and_vectors().into_iter().chain(all()) {
+        let Some(text) = text(&example.file) else { continue };
+        let case = read(&example.file).expect("its header is sound").case;
+        let lines = text.lines().filter(|line| !line.starts_with("hour "));
+        let shorter = lines.flat_map(|line| [line, "\n"]).collect::<String>();
+        assert!(shorter.len() < text.len());
+        if !case.obligations.is_empty() {
+            let fault = write(shorter.as_bytes()).expect_err("it has obligations");
+            assert_eq!(fault.what, "there are obligations, and no line \"hour\"");
+        } else if case.hour != ABSENT {
+            let file = write(shorter.as_bytes()).expect("it is a text");
+            assert_eq!(number_at(&file, HOUR_AT), 65_534);
+            let verdict = |file: &[u8]| check(file, &mut vec![0; example.room]);
+            assert_eq!(verdict(&file), verdict(&example.file), "{}", example.name);
+            without += 1;
+        }
+    }
+    assert!(without > 100, "{without}");
+}
+
 #[test]
 fn full_size_file() {
     assert!(assert_there_and_back(&full_size().to_bytes()));
@@ -165,16 +343,16 @@ fn senseless(random: &mut Random) -> Vec<u8> {
             file.extend(some_number(random).to_le_bytes());
         }
         let pair = [offset, file.len() - offset].map(|number| (number as u16).to_le_bytes());
-        file[4 + 4 * place..8 + 4 * place].copy_from_slice(&pair.concat());
+        file[pair_at(place)..][..4].copy_from_slice(&pair.concat());
     }
-    for field in [0, 2] {
+    for field in [AGENT_AT, ACTION_AT, HOUR_AT] {
         file[field..field + 2].copy_from_slice(&some_number(random).to_le_bytes());
     }
     file
 }
 
 fn length(file: &[u8], place: usize) -> u16 {
-    u16::from_le_bytes([file[6 + 4 * place], file[7 + 4 * place]])
+    number_at(file, pair_at(place) + 2)
 }
 
 fn some_number(random: &mut Random) -> u16 {
@@ -212,8 +390,9 @@ fn cut_files() {
     for length in 0..file.len() {
         assert!(!assert_there_and_back(&file[..length]));
     }
-    assert_eq!(show(&[]), "Case file of 0 bytes\n\nVerdict: refused 1 0\n  The file has under 36 or over 47,652 bytes.\n");
-    let shown = show(&file[..80]);
+    assert_eq!(show(&[]), "Case file of 0 bytes\n\nVerdict: refused 1 0\n  The file has under 38 or over 47,910 bytes.\n");
+    let (log, length) = grant().pairs()[1];
+    let shown = show(&file[..(log + length - 2) as usize]);
     assert!(shown.contains("\n  4  a0 communicates p7(a1, d0) to a1\n"));
     assert!(shown.ends_with(
         "
@@ -221,7 +400,7 @@ Not shown: log rows, observers, conditions, obligations, labels, steps, premises
 
 Verdict: refused 2 1
   Part 1 (log rows): it is not where it is due, or its length is not right.
-  The header says: offset 76, length 6.
+  The header says: offset 78, length 6.
 "
     ));
 }
@@ -260,10 +439,13 @@ fn rows_without_words() {
 /// Where the observers or the premises are not sound, rows and steps are shown without them.
 #[test]
 fn faulty_lists() {
-    let observers = grant().change(|case| case.header[2] = Some((82, 3)));
+    let with_length = |place: usize, length| {
+        grant().change(|case| case.header[place] = Some((case.pairs()[place].0, length)))
+    };
+    let observers = with_length(2, 3);
     let shown = show(&observers.to_bytes());
     assert!(shown.contains("\nLog\n  0  a0 creates d0\n\nNot shown: observers, "), "{shown}");
-    let premises = grant().change(|case| case.header[7] = Some((104, 1)));
+    let premises = with_length(7, 1);
     let shown = show(&premises.to_bytes());
     let steps = "\nSteps\n  0 seen row 0 [a0 creates d0]: a0 owns d0\n  1 owner, span 0 1: a0 says";
     assert!(shown.contains(steps) && shown.contains("\nNot shown: premises\n"), "{shown}");
@@ -304,6 +486,7 @@ fn a_text_by_hand() {
         step: a0 owns d0; seen row 0
         step 1: a0 says p7(a1,d0) to a1; owner; from 0  -- premise 0
         agent a0
+        hour 50
         action a0 communicates ((p7(a1, d0))) to a1
         row: a0 creates d0; seen by a0
         formula: a0 creates d0
@@ -324,7 +507,30 @@ fn faults_name_the_line() {
         ("agent a0\nagent a1", "line 2: there is such a line already"),
         ("agent a16384", "line 1: \"a16384\" is no term"),
         ("agent 65536", "line 1: \"65536\" is no number up to 65535"),
-        ("\n\nagents a0", "line 3: expected agent, action, formula, row, condition, obligation, label or step, found \"agents\""),
+        ("\n\nagents a0", "line 3: expected agent, action, hour, formula, row, condition, obligation, label or step, found \"agents\""),
+        ("hour 1\nhour 1", "line 2: there is such a line already"),
+        ("hour", "line 1: expected an hour, found the end of the line"),
+        ("hour a5", "line 1: expected an hour, found \"a5\""),
+        ("hour 65535", "line 1: 65535 means absent, and is not an hour"),
+        ("hour 65536", "line 1: \"65536\" is no number up to 65535"),
+        ("hour 1 2", "line 1: expected the end of the line, found \"2\""),
+        ("obligation: !act3(a1)", "line 1: expected \"; due\" and an hour, found the end of the line"),
+        ("obligation: !act3(a1) due 5", "line 1: expected \"; due\" and an hour, found \"due\""),
+        ("obligation: !act3(a1);", "line 1: expected \"due\", found the end of the line"),
+        ("obligation: !act3(a1); done by row 1", "line 1: expected \"due\", found \"done\""),
+        ("obligation: !act3(a1); due", "line 1: expected an hour, found the end of the line"),
+        ("obligation: !act3(a1); due d0", "line 1: expected an hour, found \"d0\""),
+        ("obligation: !act3(a1); due 65535", "line 1: 65535 means absent, and is not an hour"),
+        ("obligation: !act3(a1); due 65536", "line 1: \"65536\" is no number up to 65535"),
+        ("obligation: !act3(a1); due 5; due 6", "line 1: expected \"done by row\", found \"due\""),
+        ("obligation: !act3(a1); due 5; row 1", "line 1: expected \"done by row\", found \"row\""),
+        ("obligation: !act3(a1); due 5; done by row", "line 1: expected a row's number, found the end of the line"),
+        ("obligation: !act3(a1); due 5; done by row absent", "line 1: expected a row's number, found \"absent\""),
+        ("obligation: !act3(a1); due 5; done by row 65535", "line 1: 65535 means absent, and is not a row's number"),
+        ("obligation: !act3(a1); due 5; done by row 65536", "line 1: \"65536\" is no number up to 65535"),
+        ("obligation: !act3(a1); due 5; done by row 1; due 5", "line 1: expected the end of the line, found \";\""),
+        ("agent a0\nobligation: !act3(a1); due 5\naction absent", "line 3: there are obligations, and no line \"hour\""),
+        ("label: !act3(a1); due 5", "line 1: expected the end of the line, found \";\""),
         ("row: absent seen by a0", "line 1: expected the end of the line, found \"seen\""),
         ("row: absent; seen a0", "line 1: expected \"seen by\" or \"span\", found \"seen\""),
         ("condition 1: p1()", "line 1: this is condition 0, not 1"),
@@ -358,15 +564,16 @@ fn limits_name_the_line() {
     let limits = [
         ("row: absent", 1_024),
         ("condition: absent", 64),
-        ("obligation: #0", 64),
+        ("obligation: #0; due 0", 64),
         ("label: #0", 32),
         ("step: #0; says", 2_048),
     ];
     for (line, most) in limits {
-        let text = format!("agent a0\naction absent\n{}", format!("{line}\n").repeat(most));
+        let header = "agent a0\naction absent\nhour absent\n";
+        let text = format!("{header}{}", format!("{line}\n").repeat(most));
         assert!(write(text.as_bytes()).is_ok(), "{line}");
         let fault = write((text + line).as_bytes()).expect_err(line);
-        assert_eq!(fault.line, most + 3);
+        assert_eq!(fault.line, most + 4);
     }
     let lists = [("row: absent; seen by ", 4_096), ("step: #0; says; from ", 2_048)];
     for (line, most) in lists {
@@ -431,8 +638,15 @@ fn pages() {
     for (words, _) in RULES {
         assert!(page.contains(&format!("`{words}")), "{words}");
     }
-    assert_quoted(&page, &example("grant-swap"), "Verdict: ");
+    for name in QUOTED {
+        assert_quoted(&page, &example(name), "Verdict: ");
+    }
+    assert_quoted(&page, &example("twice-report-unseen"), "Obligations");
 }
+
+/// The examples of which the page on the notation quotes the verdict.
+const QUOTED: [&str; 4] =
+    ["grant-swap", "grant-refined-by-reading", "twice-report-unseen", "twice-one-report"];
 
 /// The file of the example of this name.
 fn example(name: &str) -> Vec<u8> {
@@ -440,13 +654,14 @@ fn example(name: &str) -> Vec<u8> {
     found.expect("there is such an example").file
 }
 
-/// Three examples as they are shown.
+/// Some examples as they are shown.
 #[test]
 fn shown() {
     let expected = [
         ("grant", include_str!("shown/grant.txt")),
         ("visit-condition-absent", include_str!("shown/visit-condition-absent.txt")),
         ("000-example-2", include_str!("shown/000-example-2.txt")),
+        ("twice-report-unseen", include_str!("shown/twice-report-unseen.txt")),
     ];
     for (name, expected) in expected {
         assert_eq!(show(&example(name)), expected, "{name}");

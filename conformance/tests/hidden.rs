@@ -31,6 +31,17 @@ fn one_answer(pair: [&[u8]; 2], entries: usize) -> Option<Verdict> {
     Some(first.0)
 }
 
+/// Numbers that have to come often among the pairs.
+const OFTEN: [&str; 7] = [
+    "DATA_VARIABLE",
+    "WRONG_PREMISE_KIND",
+    "WRONG_PARTY",
+    "WRONG_INSTANCE",
+    "NO_TAUTOLOGY",
+    "DUTY_NOT_DONE",
+    "ROW_NAMED_TWICE",
+];
+
 /// 20,000 pairs compared, each with a file that differs in what the agent cannot see.
 #[test]
 fn pairs_alike_to_the_agent() {
@@ -53,12 +64,25 @@ fn pairs_alike_to_the_agent() {
     println!("{turn} pairs, {differ} differ, {passed} passed, refused {refused:?}");
     assert!(turn < 25_000 && differ > 15_000, "{turn}, {differ}");
     assert!(passed > 3_000 && refused[&16] > 3_000, "{passed}, {refused:?}");
-    let often =
-        ["DATA_VARIABLE", "WRONG_PREMISE_KIND", "WRONG_PARTY", "WRONG_INSTANCE", "NO_TAUTOLOGY"];
-    assert!(often.map(number_of).iter().all(|number| refused[number] >= 100), "{refused:?}");
+    assert!(OFTEN.map(number_of).iter().all(|number| refused[number] >= 100), "{refused:?}");
     let listed: BTreeSet<u16> = check_refusals().map(|refusal| refusal.number).collect();
     let due = listed.difference(&BTreeSet::from([1, 2, 5])).copied().collect();
     assert_eq!(refused.into_keys().collect::<BTreeSet<u16>>(), due);
+}
+
+/// An expired duty that names a hidden row is refused by 31, whatever the row holds, struck or not,
+/// and whoever else sees it.
+#[test]
+fn a_hidden_row_named_by_a_duty() {
+    for action in [0, 4, ABSENT] {
+        for observers in [vec![], vec![1], vec![1, 2, 3]] {
+            let hidden = LogRow { action, observers, span: None };
+            let case = grant().expired(1, "0 creates", 1).change(|case| case.rows.push(hidden));
+            let refused = Verdict::Refused { number: 31, place: 0 };
+            let expected = (refused, vec![PATTERN; 4]);
+            assert_eq!(answer(proved::check, &case.to_bytes(), 4), expected);
+        }
+    }
 }
 
 /// A step that cites a hidden row is refused by 16, whatever the row holds, struck or not, and

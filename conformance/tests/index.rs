@@ -12,12 +12,12 @@ use conformance::cases::{twice, visit, ROOM};
 use conformance::checker::{admit, strike_unseen, Refusal, Verdict, ABSENT};
 use conformance::damages::damaged;
 use conformance::desk::reading::read;
-use conformance::desk::words::check_refusals;
+use conformance::desk::words::{check_refusals, number_of};
 use conformance::examples;
 use conformance::full_size::full_size;
 use conformance::hidden::{is_left_out, random_case, random_pair};
 use conformance::indexes::*;
-use conformance::justifications::{passing, slipping};
+use conformance::justifications::{failing_duties, passing, slipping};
 use conformance::loads::{index_loads, observed};
 use conformance::random::{damage, Random};
 use conformance::rooms::{room_too_short, PATTERN};
@@ -484,9 +484,10 @@ fn with_more_rows(case: CaseFile, random: &mut Random) -> CaseFile {
     })
 }
 
-/// Cases that pass, with few rows and many, with slips, of hidden rows, and damaged.
+/// Cases that pass, with few rows and many, with slips, of hidden rows, with duties not done, and
+/// damaged.
 fn random_file(turn: usize, random: &mut Random) -> Vec<u8> {
-    match turn % 8 {
+    match turn % 9 {
         0 => passing(random).to_bytes(),
         1..=3 => {
             let case = passing(random);
@@ -498,6 +499,7 @@ fn random_file(turn: usize, random: &mut Random) -> Vec<u8> {
         }
         5 => random_case(turn, random).to_bytes(),
         6 => damaged(&slipping(random), random).1,
+        7 => failing_duties(random).to_bytes(),
         _ => damaged(&passing(random), random).1,
     }
 }
@@ -525,7 +527,7 @@ fn build_somewhere(file: &[u8], random: &mut Random) -> Result<u16, Refusal> {
 }
 
 /// 100,000 cases: an index is built in rooms of all lengths, and a check made through an index that
-/// is as built or wrong in one way. Each way is met often, and so are 29, 30 and a pass.
+/// is as built or wrong in one way. Each way is met often, and so are 29 to 32 and a pass.
 #[test]
 fn random_cases() {
     let mut random = Random(0x0123_4567_89AB_CDEF);
@@ -546,6 +548,8 @@ fn random_cases() {
     assert!(building[&0] > 20_000 && building[&29] > 10_000, "{building:?}");
     assert!((1..=5).all(|number| building.get(&number) > Some(&20)), "{building:?}");
     assert!(checking[&0] > 20_000 && checking[&30] > 10_000, "{checking:?}");
+    let duties = ["DUTY_NOT_DONE", "ROW_NAMED_TWICE"].map(number_of);
+    assert!(duties.iter().all(|number| checking[number] >= 1_000), "{checking:?}");
     let due = check_refusals().map(|refusal| refusal.number);
     let due = due.filter(|number| *number != room_too_short()).chain([u16::MAX]);
     assert!(due.clone().all(|number| checking.get(&number) > Some(&20)), "{checking:?}");

@@ -287,6 +287,8 @@ fn console_words_by_number() {
     }
     says(29, 5, "Entries needed 5: the room for the index is too short.");
     says(30, 0, "The index is not that of this file's log.");
+    let numbers = refusals().iter().map(|refusal| refusal.number as u8);
+    says(numbers.max().expect("there are refusals") + 1, 0, "No such refusal.");
     says(255, 5, "No such refusal.");
 }
 
@@ -315,7 +317,9 @@ fn console_words() {
     };
     let says = |input: &[u8], words: &str| assert_eq!(second(input).as_deref(), Some(words));
     let example = |name: &str| example(name).file;
-    says(&[], "The file has under 36 or over 47,652 bytes.");
+    for length in [0, 37, 47_911] {
+        says(&vec![0; length], "The file has under 38 or over 47,910 bytes.");
+    }
     let mut longer = example("grant");
     longer.push(0);
     says(&longer, "Part 7 (premises): it is not where it is due, or its length is not right.");
@@ -333,6 +337,37 @@ fn console_words() {
                       a step that it rests on, cites a log row, a condition or an obligation, or it \
                       leaves a label open.";
     says(&example("grant-refined-by-reading"), by_reading);
+}
+
+/// What duties with a due hour bring; which of its reasons a 31 has is not told.
+#[test]
+fn console_words_of_duties() {
+    let console = console("duties");
+    let tells = |name: &str, text: &str| {
+        assert_eq!(printed(run(&console, &example(name).file)), text, "{name}");
+    };
+    let bad_duty = "refused 7 0\n\
+                    Obligation 0: its mark, its action, its due hour or its row is not well made.\n";
+    tells("grant-duty-no-hour", bad_duty);
+    tells("grant-duty-no-such-row", bad_duty);
+    let no_hour = "refused 9 0\nThe agent is no agent, the audited action is no action, or the \
+                   audit hour is absent.\n";
+    tells("grant-no-hour", no_hour);
+    let not_done = |place: u16| {
+        format!(
+            "refused 31 {place}\nObligation {place}: it was due before the audit hour, and it \
+             names no log row that the agent observes with its action.\n"
+        )
+    };
+    tells("twice-not-reported", &not_done(1));
+    tells("twice-report-unseen", &not_done(1));
+    tells("twice-report-struck", &not_done(0));
+    tells("visit-row-of-another-action", &not_done(0));
+    tells("creator-not-reported", &not_done(0));
+    let one_row = "refused 32 1\nObligation 1: it is owed at each use, and an earlier one owed at \
+                   each use names the same log row.\n";
+    tells("twice-one-report", one_row);
+    tells("creator-reported", "none owed\nThis action asks nothing of this agent.\n");
 }
 
 /// Runs a program over a file that is longer than any case, and tells how many bytes it has read.
@@ -400,7 +435,7 @@ fn console_trouble() {
     for mut way in ways {
         let (output, bytes) = run_on_long_file(&mut way, "console");
         assert_eq!(output.status.code(), Some(2), "{way:?}");
-        assert_eq!(bytes, MOST_BYTES as u64 + 1, "{way:?}");
+        assert_eq!(bytes, 47_911, "{way:?}");
         let full = File::options().write(true).open("/dev/full").expect("it is there");
         let output = way.stdin(File::open(case).expect("it is there")).stdout(full).output();
         let words = assert_trouble(&output.expect("the console starts"));
@@ -599,20 +634,21 @@ fn program_on_examples() {
     for example in all() {
         assert_eq!(program(&example.file), output(&example), "{}", example.name);
     }
+    assert_eq!(program(&example("grant").file), "case 108\npassed 0 1\nrow 0\n");
 }
 
-/// Of a longer input 47,653 bytes are read; the empty one and the edges are told as they are.
+/// Of a longer input 47,911 bytes are read; the empty one and the edges are told as they are.
 #[test]
 fn program_on_lengths() {
-    for (length, verdict) in [(0, "refused 1 0"), (35, "refused 1 0"), (36, "refused 2 0")] {
+    for (length, verdict) in [(0, "refused 1 0"), (37, "refused 1 0"), (38, "refused 2 0")] {
         assert_eq!(program(&vec![0; length]), format!("case {length}\n{verdict}\n"));
     }
-    assert_eq!(program(&vec![0; MOST_BYTES]), "case 47652\nrefused 2 0\n");
+    assert_eq!(program(&vec![0; MOST_BYTES]), "case 47910\nrefused 2 0\n");
     for length in [MOST_BYTES + 1, MOST_BYTES + 2, 65_536, 200_000] {
-        assert_eq!(program(&vec![0; length]), "case 47653\nrefused 1 0\n");
+        assert_eq!(program(&vec![0; length]), "case 47911\nrefused 1 0\n");
     }
     let (output, bytes) = run_on_long_file(&mut Command::new(check_case()), "program");
-    assert_eq!((printed(output).as_str(), bytes), ("case 47653\nrefused 1 0\n", 47_653));
+    assert_eq!((printed(output).as_str(), bytes), ("case 47911\nrefused 1 0\n", 47_911));
 }
 
 /// The full-size file, and what the program prints of it.
@@ -621,7 +657,7 @@ fn full_size() -> (Vec<u8>, String) {
     let rows = (0..1_024).map(|number| format!("row {number}\n"));
     let listed: String = duties.chain(rows).collect();
     let file = conformance::full_size::full_size().to_bytes();
-    (file, format!("case 47650\npassed 64 1024\n{listed}"))
+    (file, format!("case 47908\npassed 64 1024\n{listed}"))
 }
 
 #[test]
@@ -650,7 +686,7 @@ fn run_on_pieces(program: &Path, pieces: &[&[u8]]) -> Output {
 /// No piece is longer than what the program reads at once, since a datagram's rest would be lost.
 fn cuts(input: &[u8]) -> Vec<Vec<&[u8]>> {
     let (front, last) = input.split_at(input.len() - 1);
-    let sizes = [1, 2, 7, 105, 4_096];
+    let sizes = [1, 2, 7, 107, 4_096];
     let even = sizes.map(|size| input.chunks(size).collect());
     even.into_iter().chain(once(front.chunks(4_096).chain([last]).collect())).collect()
 }
@@ -676,12 +712,12 @@ fn program_on_pieces_of_long_inputs() {
     let longest = vec![0; MOST_BYTES];
     for pieces in cuts(&longest) {
         let text = printed(run_on_pieces(&check_case(), &pieces));
-        assert_eq!(text, "case 47652\nrefused 2 0\n");
+        assert_eq!(text, "case 47910\nrefused 2 0\n");
     }
     for length in [MOST_BYTES + 1, MOST_BYTES + 2, 65_536] {
         for pieces in cuts(&vec![0; length]) {
             let text = printed(run_on_pieces(&check_case(), &pieces));
-            assert_eq!(text, "case 47653\nrefused 1 0\n");
+            assert_eq!(text, "case 47911\nrefused 1 0\n");
         }
     }
 }
@@ -721,7 +757,7 @@ fn programs_on_read_errors() {
     assert!(output.stdout.is_empty() && !output.stderr.is_empty());
     let longer = vec![0; MOST_BYTES + 1];
     let text = printed(run_until_error(check_case(), &longer));
-    assert_eq!(text, "case 47653\nrefused 1 0\n");
+    assert_eq!(text, "case 47911\nrefused 1 0\n");
     for way in ways() {
         assert_eq!(run_until_error(way, &longer).status.code(), Some(2));
     }

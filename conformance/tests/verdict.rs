@@ -9,8 +9,9 @@ use conformance::checker::{check, Verdict, ABSENT, MOST_BYTES};
 use conformance::damages::{damaged, WAYS};
 use conformance::desk::reading::read;
 use conformance::desk::words::{check_refusals, number_of, step_faults};
+use conformance::duties::is_right_about_duties;
 use conformance::examples;
-use conformance::full_size::full_size;
+use conformance::full_size::{full_size, largest};
 use conformance::justifications::{passing, slipping};
 use conformance::loads::loads;
 use conformance::proved;
@@ -58,9 +59,10 @@ fn random_file(turn: usize, random: &mut Random) -> (&'static str, Vec<u8>) {
 }
 
 /// 24, 25 and 26 come only with the rules for which the header has words. The place of 27 is a
-/// formula, and the one due. 28 is told where it is due, and nowhere else.
+/// formula, and the one due. 28, 31 and 32 are told where they are due, and nowhere else.
 fn assert_place(file: &[u8], verdict: Verdict) {
     assert!(is_right_about_refining(file, verdict), "{verdict}, {file:?}");
+    assert!(is_right_about_duties(file, verdict), "{verdict}, {file:?}");
     let Verdict::Refused { number, place } = verdict else { return };
     if number == 27 {
         assert_eq!(lowest_stray(file), Some(place), "{file:?}");
@@ -87,9 +89,11 @@ fn run(seed: u64, turns: usize) -> (Answers, BTreeMap<&'static str, usize>) {
     (answers, refused)
 }
 
-/// Misfits of every number, and refinements by more than a tautology, come this often in the random
-/// files.
-const OFTEN: [(&str, usize); 6] = [
+/// Misfits of every number, refinements by more than a tautology, and duties not done or naming one
+/// row come this often in the random files.
+const OFTEN: [(&str, usize); 8] = [
+    ("DUTY_NOT_DONE", 3_000),
+    ("ROW_NAMED_TWICE", 3_000),
     ("NO_TAUTOLOGY", 3_000),
     ("DATA_VARIABLE", 3_000),
     ("WRONG_PREMISE_KIND", 3_000),
@@ -132,7 +136,7 @@ fn passing_justifications_have_everything() {
     for _ in 0..2_000 {
         let case = passing(&mut random);
         case.steps.iter().for_each(|step| rules[step.rule as usize] += 1);
-        case.obligations.iter().for_each(|(mark, _)| marks[*mark as usize] += 1);
+        case.obligations.iter().for_each(|duty| marks[duty.mark as usize] += 1);
         let kinds = case.rows.iter();
         rows.extend(kinds.map(|row| (row.action == ABSENT, row.observers.contains(&case.agent))));
         let passes = matches!(check(&case.to_bytes(), &mut [0; ROOM]), Verdict::Passed { .. });
@@ -159,15 +163,18 @@ fn full_size_files() {
     assert_eq!(verdict, Verdict::Passed { obligations: 64, rows: 1_024 });
     let last = 2_047;
     let change = |change: fn(&mut Step)| full.clone().change(|case| change(&mut case.steps[2_047]));
-    let whole = change(|step| step.premises.push(0));
-    assert_eq!(whole.to_bytes().len(), MOST_BYTES);
-    refused(whole, 12, last);
+    assert_eq!(largest().to_bytes().len(), MOST_BYTES);
+    refused(largest(), 12, last);
     refused(change(|step| step.premises[0] = 0), 13, last);
     refused(change(|step| step.argument = ABSENT), 14, last);
     refused(change(|step| (step.rule, step.argument) = (LEFT, ABSENT)), 24, last);
-    refused(change(|step| step.formula = 2), 26, last);
+    let for_all = full.steps[2_046].formula;
+    refused(full.clone().change(|case| case.steps[2_047].formula = for_all), 26, last);
     refused(change(|step| step.argument = data(0)), 18, last);
     refused(full.clone().change(|case| case.action = other_action(case)), 22, last);
+    refused(full.clone().change(|case| case.obligations[63].row = ABSENT), 31, 63);
+    let row = full.obligations[47].row;
+    refused(full.clone().change(|case| case.obligations[63].row = row), 32, 63);
 }
 
 /// An action of the agent that owes something else than is proved: the one told in the log, by

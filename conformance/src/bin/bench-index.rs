@@ -11,7 +11,7 @@ use std::hint::black_box;
 use std::time::Instant;
 
 use conformance::cases::ROOM;
-use conformance::checker::{self, Verdict};
+use conformance::checker::{self, number_at, pair_at, Verdict};
 use conformance::full_size::full_size;
 use conformance::indexes::{as_built, due, MOST_ENTRIES};
 use conformance::loads::index_loads;
@@ -57,8 +57,8 @@ fn all() -> Vec<Load> {
 
 /// The numbers of the part at this place.
 fn part(file: &[u8], place: usize) -> impl Iterator<Item = u16> + '_ {
-    let number = |at: usize| u16::from_le_bytes([file[at], file[at + 1]]) as usize;
-    let (offset, length) = (number(4 + 4 * place), number(6 + 4 * place));
+    let number = |at: usize| number_at(file, at) as usize;
+    let (offset, length) = (number(pair_at(place)), number(pair_at(place) + 2));
     let pairs = file[offset..offset + length].chunks_exact(2);
     pairs.map(|pair| u16::from_le_bytes([pair[0], pair[1]]))
 }

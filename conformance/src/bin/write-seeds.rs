@@ -1,12 +1,13 @@
 //! Writes the fuzzer's first inputs to a folder: the known files that are short, and random
-//! justifications, those that pass, which have all sixteen rules among them, and those that slip.
+//! justifications, those that pass, which have all sixteen rules among them, those that slip, and
+//! those whose duties fail.
 
 use std::env;
 use std::fs;
 use std::io;
 use std::path::Path;
 
-use conformance::justifications::{passing, slipping};
+use conformance::justifications::{failing_duties, passing, slipping};
 use conformance::pack::known_files;
 use conformance::random::Random;
 
@@ -16,7 +17,8 @@ const OF_EACH: usize = 300;
 fn main() -> io::Result<()> {
     let folder = env::args().nth(1).expect("give a folder");
     let mut random = Random(0x2545_F491_4F6C_DD1D);
-    let made = (0..OF_EACH).flat_map(|_| [passing(&mut random), slipping(&mut random)]);
+    let mut each = || [passing, slipping, failing_duties].map(|make| make(&mut random));
+    let made = (0..OF_EACH).flat_map(|_| each());
     let files = known_files().into_iter().chain(made.map(|case| case.to_bytes()));
     let files = files.filter(|file| file.len() <= LONGEST);
     for (number, file) in files.enumerate() {

@@ -1,14 +1,15 @@
-//! The plain checker of one case: document 01 from top to bottom, with change requests 1 to 5 of
+//! The plain checker of one case: document 01 from top to bottom, with change requests 1 to 6 of
 //! document 02, one small function for each check and each rule. Here are the answers and the order
 //! of the checks. The checks themselves are in `case_file`, `terms`, `formulas`, `records`, `steps`,
-//! `misfits`, `rules` and `end`, to be read in this order; `index` and `striking` are apart from
-//! them.
+//! `misfits`, `rules`, `end` and `duties`, to be read in this order; `index` and `striking` are
+//! apart from them.
 //!
 //! Formulas are read into trees and trees are compared, so nothing here rests on one meaning
-//! having one row number. Words in quotes are document 01's, and those about 24 to 30, the column of
-//! sizes and the index document 02's.
+//! having one row number. Words in quotes are document 01's, and those about 24 to 32, hours, the
+//! column of sizes and the index document 02's.
 
 mod case_file;
+mod duties;
 mod end;
 mod formulas;
 mod index;
@@ -22,21 +23,23 @@ mod terms;
 use std::fmt;
 use std::ops::Range;
 
-pub use case_file::{ABSENT, HEADER_BYTES, MOST_BYTES, PARTS};
+pub use case_file::{number_at, pair_at};
+pub use case_file::{ABSENT, ACTION_AT, AGENT_AT, HEADER_BYTES, HOUR_AT, MOST_BYTES, PARTS};
 pub use formulas::{admit_book, size_column};
 pub use index::build_index;
 pub use striking::strike_unseen;
 
-pub(crate) use case_file::{check_2, numbers};
+pub(crate) use case_file::{check_2, fields, numbers, pairs};
 pub(crate) use records::owed;
 pub(crate) use terms::{Shape, Sort, Term};
 
 use case_file::check_1;
+use duties::{check_31, check_32};
 use end::{check_20, check_21, check_22, check_23};
 use formulas::Tree;
 use index::check_30;
 use records::{check_10, check_11, check_5, check_6, check_7, check_8, check_9};
-use records::{read_steps, LogRow, Marked, Step};
+use records::{read_steps, LogRow, Marked, Obligation, Step};
 use steps::{take_step, Proof};
 
 // ---- Answers ----
@@ -115,12 +118,17 @@ fn tell(judged: Result<Option<Proof>, Refusal>, room: &mut [u16]) -> Verdict {
 
 /// "Order: 1 to 11 by number, lowest place first; then steps in order, each through 12 to 19 by
 /// number; then 20 to 23." Here are those from 10 on. In a step 27 and then 24 to 26 come just
-/// before 18, and 28 after 19.
+/// before 18, and 28 after 19. 31 and then 32 come "between 22 and 23, or directly before 'none
+/// owed'".
 fn judge(case: &Case, room: usize) -> Result<Option<Proof>, Refusal> {
     let owed = owed(&case.action, case.agent);
     check_10(case, &owed)?;
     check_11(case, &owed)?;
-    let Some(owed) = owed else { return Ok(None) };
+    let Some(owed) = owed else {
+        check_31(case)?;
+        check_32(case)?;
+        return Ok(None);
+    };
     let mut proof = Proof::default();
     for _ in &case.steps {
         take_step(case, &mut proof)?;
@@ -128,6 +136,8 @@ fn judge(case: &Case, room: usize) -> Result<Option<Proof>, Refusal> {
     check_20(&proof)?;
     check_21(&proof)?;
     check_22(&proof, &owed)?;
+    check_31(case)?;
+    check_32(case)?;
     check_23(&proof, room)?;
     Ok(Some(proof))
 }
@@ -136,10 +146,12 @@ fn judge(case: &Case, room: usize) -> Result<Option<Proof>, Refusal> {
 pub struct Case {
     pub(crate) agent: Term,
     pub(crate) action: Tree,
+    /// The audit hour.
+    hour: u16,
     pub book: Vec<Tree>,
     log: Vec<LogRow>,
     conditions: Vec<Option<Tree>>,
-    obligations: Vec<Marked>,
+    obligations: Vec<Obligation>,
     labels: Vec<Marked>,
     steps: Vec<Step>,
     premises: Vec<u16>,
@@ -150,12 +162,12 @@ pub fn admit(file: &[u8]) -> Result<Case, Refusal> {
     let (parts, book, log) = admit_log(file)?;
     let part = |place: usize| &file[parts[place].clone()];
     let conditions = check_6(part(3), &book)?;
-    let obligations = check_7(part(4), &book)?;
+    let obligations = check_7(part(4), &book, &log)?;
     let labels = check_8(part(5), &book)?;
-    let (agent, action) = check_9(file, &book)?;
+    let (agent, action, hour) = check_9(file, &book)?;
     let steps = read_steps(part(6));
     let premises = numbers(part(7));
-    Ok(Case { agent, action, book, log, conditions, obligations, labels, steps, premises })
+    Ok(Case { agent, action, hour, book, log, conditions, obligations, labels, steps, premises })
 }
 
 /// The bytes of each part, the book, and the log.

@@ -3,7 +3,7 @@
 
 use std::ops::Range;
 
-use super::case_file::{numbers, ABSENT, HEADER_BYTES};
+use super::case_file::{fields, number_at, numbers, ABSENT, ACTION_AT, AGENT_AT, HOUR_AT};
 use super::formulas::Formula::{self, *};
 use super::formulas::{find, Tree, EACH_USE, ONCE, POLICY};
 use super::terms::Term;
@@ -15,10 +15,24 @@ pub(super) struct LogRow {
     pub(super) observers: Vec<u16>,
 }
 
-/// An obligation or a label.
+impl LogRow {
+    /// "A row is seen by an agent whose number is among the observer entries", "struck or not".
+    pub(super) fn is_seen_by(&self, agent: Term) -> bool {
+        self.observers.contains(&agent.number)
+    }
+}
+
+/// What an obligation or a label is about.
 pub(super) struct Marked {
     pub(super) mark: u16,
     pub(super) formula: Tree,
+}
+
+/// An obligation with "a due hour" and "the log row that did it", if it names one.
+pub(super) struct Obligation {
+    pub(super) duty: Marked,
+    pub(super) due: u16,
+    pub(super) row: Option<u16>,
 }
 
 /// A step as the file has it; checks 12 and up judge it.
@@ -59,10 +73,10 @@ pub(super) fn check_5(
     let (rows, entries) = (numbers(rows), numbers(observers));
     let mut log = Vec::new();
     let mut due = 0;
-    for (place, row) in rows.chunks(3).enumerate() {
+    for (place, row) in rows.chunks(fields(1)).enumerate() {
         let action = ground_action(book, row[0]);
         ensure(action.is_some() || row[0] == ABSENT, 5, place)?;
-        let last = 3 * (place + 1) == rows.len();
+        let last = fields(1) * (place + 1) == rows.len();
         let span = span(due, row[1], row[2], last, entries.len()).ok_or(refusal(5, place))?;
         due = span.end;
         let observers = entries[span].to_vec();
@@ -90,14 +104,22 @@ pub(super) fn check_6(part: &[u8], book: &[Tree]) -> Result<Vec<Option<Tree>>, R
     Ok(conditions)
 }
 
-/// 7: bad obligation. "Mark 1 (each use) or 2 (once), ground action."
-pub(super) fn check_7(part: &[u8], book: &[Tree]) -> Result<Vec<Marked>, Refusal> {
+/// 7: bad obligation. "Mark 1 (each use) or 2 (once), ground action." And "a due hour (absent:
+/// refusal 7) and the log row that did it (absent: not done; beyond the log: refusal 7)".
+pub(super) fn check_7(
+    part: &[u8],
+    book: &[Tree],
+    log: &[LogRow],
+) -> Result<Vec<Obligation>, Refusal> {
     let mut obligations = Vec::new();
-    for (place, record) in numbers(part).chunks(2).enumerate() {
-        let mark = record[0];
+    for (place, record) in numbers(part).chunks(fields(4)).enumerate() {
+        let (mark, due) = (record[0], record[2]);
         ensure(mark == EACH_USE || mark == ONCE, 7, place)?;
         let formula = ground_action(book, record[1]).ok_or(refusal(7, place))?;
-        obligations.push(Marked { mark, formula });
+        ensure(due != ABSENT, 7, place)?;
+        let row = (record[3] != ABSENT).then_some(record[3]);
+        ensure(row.is_none_or(|row| (row as usize) < log.len()), 7, place)?;
+        obligations.push(Obligation { duty: Marked { mark, formula }, due, row });
     }
     Ok(obligations)
 }
@@ -105,7 +127,7 @@ pub(super) fn check_7(part: &[u8], book: &[Tree]) -> Result<Vec<Marked>, Refusal
 /// 8: bad label. "Mark 0 and a closed policy, or mark 1 or 2 and a closed action."
 pub(super) fn check_8(part: &[u8], book: &[Tree]) -> Result<Vec<Marked>, Refusal> {
     let mut labels = Vec::new();
-    for (place, record) in numbers(part).chunks(2).enumerate() {
+    for (place, record) in numbers(part).chunks(fields(5)).enumerate() {
         let mark = record[0];
         let formula = find(book, record[1], Formula::is_closed).ok_or(refusal(8, place))?;
         let matched = match mark {
@@ -119,13 +141,14 @@ pub(super) fn check_8(part: &[u8], book: &[Tree]) -> Result<Vec<Marked>, Refusal
     Ok(labels)
 }
 
-/// 9: agent no agent, or action no ground action.
-pub(super) fn check_9(file: &[u8], book: &[Tree]) -> Result<(Term, Tree), Refusal> {
-    let header = numbers(&file[..HEADER_BYTES]);
-    let agent = Term::read(header[0]).filter(|term| Term::AGENTS.contains(&term.number));
-    let agent = agent.ok_or(refusal(9, 0))?;
-    let action = ground_action(book, header[1]).ok_or(refusal(9, 0))?;
-    Ok((agent, action))
+/// 9: agent no agent, or action no ground action; or "the audit hour" is absent.
+pub(super) fn check_9(file: &[u8], book: &[Tree]) -> Result<(Term, Tree, u16), Refusal> {
+    let agent = Term::read(number_at(file, AGENT_AT));
+    let agent = agent.filter(|term| Term::AGENTS.contains(&term.number)).ok_or(refusal(9, 0))?;
+    let action = ground_action(book, number_at(file, ACTION_AT)).ok_or(refusal(9, 0))?;
+    let hour = number_at(file, HOUR_AT);
+    ensure(hour != ABSENT, 9, 0)?;
+    Ok((agent, action, hour))
 }
 
 pub(super) fn read_steps(part: &[u8]) -> Vec<Step> {
@@ -136,7 +159,7 @@ pub(super) fn read_steps(part: &[u8]) -> Vec<Step> {
         offset: record[3],
         count: record[4],
     };
-    numbers(part).chunks(5).map(step).collect()
+    numbers(part).chunks(fields(6)).map(step).collect()
 }
 
 /// "Owed: communicate by the agent owes 'X says Y to Z'; a user action whose X is the agent owes

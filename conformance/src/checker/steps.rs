@@ -140,7 +140,7 @@ impl Inference<'_> {
     }
 
     pub(super) fn obligation(&self) -> &Marked {
-        &self.case.obligations[self.index()]
+        &self.case.obligations[self.index()].duty
     }
 
     /// 14: needed argument absent, or cited entry absent. A struck row waits for check 16.
@@ -164,8 +164,7 @@ impl Inference<'_> {
 
     /// 16: agent not among the row's observers.
     fn check_16(&self) -> Result<(), Refusal> {
-        let agent = self.case.agent.number;
-        self.ensure(self.rule != 2 || self.row().observers.contains(&agent), 16)
+        self.ensure(self.rule != 2 || self.row().is_seen_by(self.case.agent), 16)
     }
 
     /// 14 for a struck row.

@@ -1,5 +1,6 @@
 //! Case files as people read and write them. `docs/NOTATION.md` explains the notation.
 
+pub mod duties;
 pub mod formulas;
 pub mod notation;
 pub mod parser;

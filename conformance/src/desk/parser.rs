@@ -112,6 +112,23 @@ impl Parser {
         self.take_number().map_or_else(|| self.expected("a number"), Ok)
     }
 
+    /// An hour, or "absent".
+    pub fn hour(&mut self) -> Parsed<u16> {
+        match self.take("absent") {
+            true => Ok(ABSENT),
+            false => self.present("an hour"),
+        }
+    }
+
+    /// A number; the one that means "absent" is none.
+    pub fn present(&mut self, what: &str) -> Parsed<u16> {
+        match self.take_number() {
+            None => self.expected(what),
+            Some(ABSENT) => Err(format!("{ABSENT} means absent, and is not {what}")),
+            Some(number) => Ok(number),
+        }
+    }
+
     /// A number, a term, or "absent".
     pub fn value(&mut self) -> Parsed<u16> {
         if let Some(number) = self.take_number() {

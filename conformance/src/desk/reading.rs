@@ -2,8 +2,9 @@
 
 use std::ops::Range;
 
-use crate::builder::{CaseFile, FormulaRow, LogRow, Step};
-use crate::checker::{check_2, numbers, HEADER_BYTES};
+use crate::builder::{CaseFile, FormulaRow, LogRow, Obligation, Step};
+use crate::checker::{check_2, fields, number_at, numbers, pairs};
+use crate::checker::{ACTION_AT, AGENT_AT, HEADER_BYTES, HOUR_AT, PARTS};
 
 /// A file taken apart; the parts from the first faulty one on are left empty.
 pub struct Reading {
@@ -11,27 +12,28 @@ pub struct Reading {
     /// How many parts are sound, from the first on.
     pub sound: usize,
     /// The eight pairs of offset and length.
-    pub header: Vec<(u16, u16)>,
+    pub header: [(u16, u16); 8],
 }
 
 /// None if the file is shorter than a header.
 pub fn read(file: &[u8]) -> Option<Reading> {
-    let header = numbers(file.get(..HEADER_BYTES)?);
-    let pairs: Vec<(u16, u16)> = header[2..].chunks(2).map(|pair| (pair[0], pair[1])).collect();
+    let header = pairs(file.get(..HEADER_BYTES)?);
     let sound = check_2(file).map_or_else(|refusal| refusal.place as usize, |parts| parts.len());
     let part = |place: usize| match place < sound {
-        true => &file[range(pairs[place])],
+        true => &file[range(header[place])],
         false => &[],
     };
-    let mut case = CaseFile::new(header[0]);
-    case.action = header[1];
-    case.formulas = part(0).chunks_exact(8).map(formula_row).collect();
+    let mut case = CaseFile::new(number_at(file, AGENT_AT));
+    case.action = number_at(file, ACTION_AT);
+    case.hour = number_at(file, HOUR_AT);
+    case.formulas = part(0).chunks_exact(PARTS[0].0).map(formula_row).collect();
     case.rows = rows(&numbers(part(1)), &numbers(part(2)));
     case.conditions = numbers(part(3));
-    case.obligations = numbers(part(4)).chunks(2).map(|entry| (entry[0], entry[1])).collect();
-    case.labels = numbers(part(5)).chunks(2).map(|entry| (entry[0], entry[1])).collect();
+    case.obligations = numbers(part(4)).chunks(fields(4)).map(obligation).collect();
+    let labels = numbers(part(5));
+    case.labels = labels.chunks(fields(5)).map(|label| (label[0], label[1])).collect();
     case.steps = steps(&numbers(part(6)), &numbers(part(7)));
-    Some(Reading { case, sound, header: pairs })
+    Some(Reading { case, sound, header })
 }
 
 fn range((offset, length): (u16, u16)) -> Range<usize> {
@@ -44,8 +46,12 @@ fn formula_row(record: &[u8]) -> FormulaRow {
     FormulaRow { kind: record[0], code: record[1], fields: [fields[0], fields[1], fields[2]] }
 }
 
+fn obligation(record: &[u16]) -> Obligation {
+    Obligation { mark: record[0], action: record[1], due: record[2], row: record[3] }
+}
+
 fn rows(records: &[u16], observers: &[u16]) -> Vec<LogRow> {
-    let records = records.chunks(3);
+    let records = records.chunks(fields(1));
     let lists = share(records.clone().map(|row| (row[1], row[2])).collect(), observers);
     let row =
         |(record, (observers, span)): (&[u16], List)| LogRow { action: record[0], observers, span };
@@ -53,7 +59,7 @@ fn rows(records: &[u16], observers: &[u16]) -> Vec<LogRow> {
 }
 
 fn steps(records: &[u16], premises: &[u16]) -> Vec<Step> {
-    let records = records.chunks(5);
+    let records = records.chunks(fields(6));
     let lists = share(records.clone().map(|step| (step[3], step[4])).collect(), premises);
     let step = |(record, (premises, span)): (&[u16], List)| Step {
         rule: record[0],

@@ -37,10 +37,7 @@ pub const RULES: [(&str, Argument); 16] = [
 
 /// A step's rule with its argument.
 pub fn rule(step: &Step) -> String {
-    let number = match step.argument {
-        ABSENT => "absent".to_string(),
-        argument => argument.to_string(),
-    };
+    let number = or_absent(step.argument);
     match (RULES.get(step.rule as usize), step.argument) {
         (None, _) => format!("rule {} argument {number}", step.rule),
         (Some((words, Argument::None)), ABSENT) => words.to_string(),
@@ -65,6 +62,14 @@ pub fn read_rule(parser: &mut Parser) -> Result<(u16, u16), String> {
     let given = RULES[rule].1 != Argument::None || parser.take("argument");
     let argument = if given { parser.value()? } else { ABSENT };
     Ok((rule as u16, argument))
+}
+
+/// A number, in a place where it may be absent.
+pub fn or_absent(number: u16) -> String {
+    match number {
+        ABSENT => "absent".to_string(),
+        _ => number.to_string(),
+    }
 }
 
 /// A row that the notation has no words for.

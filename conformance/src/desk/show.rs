@@ -9,7 +9,7 @@ use crate::refinements::grounds;
 use super::formulas::{Book, Written};
 use super::notation::{formula, value};
 use super::reading::{named, read, Reading};
-use super::records::{list, marked, reference, rule, RULES};
+use super::records::{list, marked, or_absent, reference, rule, RULES};
 use super::text::formula_row;
 use super::tree::{trees, Kind, Line};
 use super::words::{meaning, words, PARTS};
@@ -26,18 +26,18 @@ pub fn show(file: &[u8]) -> String {
     let mut room = [0; ROOM];
     let verdict = check(file, &mut room);
     writeln!(text, "\nVerdict: {verdict}").expect("a string takes any text");
-    let points_at = view.as_ref().and_then(|view| view.points_at(verdict));
-    let rests_on = view.as_ref().and_then(|view| view.rests_on(verdict));
-    for line in words(file, verdict, &room).into_iter().chain(points_at).chain(rests_on) {
+    let points_at = view.iter().flat_map(|view| view.points_at(verdict));
+    let more = view.iter().flat_map(|view| view.rests_on(verdict).or(view.about_duties(verdict)));
+    for line in words(file, verdict, &room).into_iter().chain(points_at).chain(more) {
         writeln!(text, "  {line}").expect("a string takes any text");
     }
     text
 }
 
 /// A file with a header, and what its spans name.
-struct View<'a> {
-    reading: &'a Reading,
-    book: Book<'a>,
+pub(super) struct View<'a> {
+    pub(super) reading: &'a Reading,
+    pub(super) book: Book<'a>,
     observers: Vec<Vec<u16>>,
     premises: Vec<Vec<u16>>,
 }
@@ -47,7 +47,7 @@ const OBSERVERS: usize = 2;
 const PREMISES: usize = 7;
 
 /// A part's title and the lines below it.
-type Section = (String, Vec<String>);
+pub(super) type Section = (String, Vec<String>);
 
 type Show<T> = fn(&T) -> Section;
 
@@ -60,11 +60,12 @@ impl View<'_> {
         View { reading, book, observers, premises }
     }
 
-    /// The agent, the audited action, and what is owed if the file is admitted.
+    /// The agent, the audited action, the audit hour, and what is owed if the file is admitted.
     fn header(&self, file: &[u8]) -> String {
         let case = &self.reading.case;
         let mut text = format!("Agent: {}\n", value(case.agent));
         text += &format!("Audited action: {}\n", reference(&self.book, case.action));
+        text += &format!("Audit hour: {}\n", or_absent(case.hour));
         if let Ok(admitted) = admit(file) {
             let is_owed = owed(&admitted.action, admitted.agent).is_some();
             text += &format!("Owed: {}\n", if is_owed { self.owed() } else { "nothing".into() });
@@ -131,8 +132,15 @@ impl View<'_> {
         section(&title, self.observers.len(), |number| self.row(number))
     }
 
-    fn is_seen(&self, row: usize) -> bool {
+    pub(super) fn is_seen(&self, row: usize) -> bool {
         self.observers[row].contains(&self.reading.case.agent)
+    }
+
+    pub(super) fn eye(&self, row: usize) -> &'static str {
+        match self.is_seen(row) {
+            true => "seen",
+            false => "hidden",
+        }
     }
 
     fn row(&self, number: usize) -> String {
@@ -142,11 +150,10 @@ impl View<'_> {
             [] => "seen by none".to_string(),
             observers => format!("seen by {}", list(observers, value)),
         };
-        let eye = if self.is_seen(number) { "seen  " } else { "hidden" };
-        format!("{eye}  {action}  [{by}{}]", span(row.span))
+        format!("{:6}  {action}  [{by}{}]", self.eye(number), span(row.span))
     }
 
-    fn action(&self, row: usize) -> String {
+    pub(super) fn action(&self, row: usize) -> String {
         match self.reading.case.rows[row].action {
             ABSENT => "struck out".to_string(),
             action => reference(&self.book, action),
@@ -162,11 +169,6 @@ impl View<'_> {
             ABSENT => "not certified".to_string(),
             condition => reference(&self.book, condition),
         }
-    }
-
-    fn obligations(&self) -> Section {
-        let obligations = &self.reading.case.obligations;
-        section("Obligations", obligations.len(), |number| marked(&self.book, obligations[number]))
     }
 
     fn labels(&self) -> Section {
@@ -216,7 +218,7 @@ impl View<'_> {
             "label" => case.labels.get(entry).map(|label| marked(&self.book, *label)),
             "condition" => case.conditions.get(entry).map(|_| self.condition(entry)),
             "row" => case.rows.get(entry).map(|_| self.action(entry)),
-            "obligation" => case.obligations.get(entry).map(|duty| marked(&self.book, *duty)),
+            "obligation" => case.obligations.get(entry).map(|duty| self.duty(duty)),
             _ => None,
         }
     }
@@ -233,7 +235,7 @@ impl View<'_> {
             "Formula" => Some(self.formula(at)),
             "Log row" => Some(self.row(at)),
             "Condition" => Some(self.condition(at)),
-            "Obligation" => case.obligations.get(at).map(|duty| marked(&self.book, *duty)),
+            "Obligation" => Some(self.obligation(at)),
             "Label" => case.labels.get(at).map(|label| marked(&self.book, *label)),
             "Step" => Some(self.step(at)),
             _ => None,
@@ -253,7 +255,7 @@ impl View<'_> {
 }
 
 /// A part's records by number.
-fn section(title: &str, count: usize, record: impl Fn(usize) -> String) -> Section {
+pub(super) fn section(title: &str, count: usize, record: impl Fn(usize) -> String) -> Section {
     let width = count.saturating_sub(1).to_string().len();
     let lines = (0..count).map(|number| format!("{number:width$}  {}", record(number)));
     (title.to_string(), lines.collect())

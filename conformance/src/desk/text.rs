@@ -2,12 +2,13 @@
 
 use std::fmt::Write;
 
-use crate::builder::{CaseFile, LogRow, Step};
+use crate::builder::{CaseFile, LogRow, Obligation, Step};
+use crate::checker::ABSENT;
 
 use super::formulas::{Book, Written};
 use super::notation::{formula, value};
 use super::reading::read;
-use super::records::{list, marked, raw, reference, rule};
+use super::records::{list, marked, or_absent, raw, reference, rule};
 
 /// None if the header is not sound.
 pub fn text(file: &[u8]) -> Option<String> {
@@ -19,11 +20,12 @@ fn spell(case: &CaseFile) -> String {
     let book = Book::new(&case.formulas);
     let mut text = format!("agent {}\n", value(case.agent));
     writeln!(text, "action {}", reference(&book, case.action)).expect("a string takes any text");
+    writeln!(text, "hour {}", or_absent(case.hour)).expect("a string takes any text");
     let formulas = (0..case.formulas.len()).map(|number| formula_row(case, &book, number));
     add(&mut text, "formula", formulas);
     add(&mut text, "row", case.rows.iter().map(|row| log_row(&book, row)));
     add(&mut text, "condition", case.conditions.iter().map(|number| reference(&book, *number)));
-    add(&mut text, "obligation", case.obligations.iter().map(|entry| marked(&book, *entry)));
+    add(&mut text, "obligation", case.obligations.iter().map(|duty| obligation(&book, duty)));
     add(&mut text, "label", case.labels.iter().map(|entry| marked(&book, *entry)));
     add(&mut text, "step", case.steps.iter().map(|row| step(&book, row)));
     text
@@ -48,6 +50,15 @@ pub fn formula_row(case: &CaseFile, book: &Book, number: usize) -> String {
 fn log_row(book: &Book, row: &LogRow) -> String {
     let action = reference(book, row.action);
     action + &entries("seen by", &row.observers, value) + &span(row.span)
+}
+
+/// The duty, its due hour, and the row that did it if it names one.
+fn obligation(book: &Book, duty: &Obligation) -> String {
+    let due = format!("{}; due {}", marked(book, (duty.mark, duty.action)), or_absent(duty.due));
+    match duty.row {
+        ABSENT => due,
+        row => format!("{due}; done by row {row}"),
+    }
 }
 
 fn step(book: &Book, step: &Step) -> String {

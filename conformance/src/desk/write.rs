@@ -2,8 +2,8 @@
 
 use std::fmt;
 
-use crate::builder::{CaseFile, LogRow, Step};
-use crate::checker::PARTS;
+use crate::builder::{CaseFile, LogRow, Obligation, Step};
+use crate::checker::{ABSENT, PARTS};
 
 use super::formulas::{Maker, Written};
 use super::parser::Parser;
@@ -40,12 +40,18 @@ pub fn write(text: &[u8]) -> Result<Vec<u8>, Fault> {
 struct Writer {
     agent: Option<u16>,
     action: Option<u16>,
+    hour: Option<u16>,
     book: Maker,
-    /// All but the agent, the action and the formulas.
+    /// All but the agent, the action, the hour and the formulas.
     case: CaseFile,
     observers: usize,
     premises: usize,
 }
+
+/// The words that begin a line.
+const LINES: &str = "agent, action, hour, formula, row, condition, obligation, label or step";
+
+const LAST_HOUR: u16 = ABSENT - 1;
 
 /// Reads a record and gives its number.
 type Reader = fn(&mut Writer, &mut Parser) -> Result<usize, String>;
@@ -65,6 +71,7 @@ impl Writer {
         Writer {
             agent: None,
             action: None,
+            hour: None,
             book: Maker::default(),
             case: CaseFile::new(0),
             observers: 0,
@@ -84,6 +91,8 @@ impl Writer {
         } else if parser.take("action") {
             let action = self.reference(&mut parser)?;
             set(&mut self.action, action)?;
+        } else if parser.take("hour") {
+            set(&mut self.hour, parser.hour()?)?;
         } else {
             self.record(&mut parser)?;
         }
@@ -94,8 +103,7 @@ impl Writer {
     fn record(&mut self, parser: &mut Parser) -> Result<(), String> {
         let found = RECORDS.into_iter().find(|(word, _, _)| parser.take(word));
         let Some((word, part, read)) = found else {
-            return parser
-                .expected("agent, action, formula, row, condition, obligation, label or step");
+            return parser.expected(LINES);
         };
         let given = parser.take_number();
         parser.expect_sign(':')?;
@@ -112,8 +120,18 @@ impl Writer {
     fn finish(mut self) -> Result<Vec<u8>, String> {
         self.case.agent = self.agent.ok_or("there is no line \"agent\"")?;
         self.case.action = self.action.ok_or("there is no line \"action\"")?;
+        self.case.hour = self.hour()?;
         self.case.formulas = self.book.rows;
         Ok(self.case.to_bytes())
+    }
+
+    /// An hour that nobody told must let no duty off: with obligations there has to be one, and
+    /// without them it is the last.
+    fn hour(&self) -> Result<u16, String> {
+        match self.hour {
+            None if self.case.obligations.is_empty() => Ok(LAST_HOUR),
+            hour => hour.ok_or("there are obligations, and no line \"hour\"".to_string()),
+        }
     }
 
     fn reference(&mut self, parser: &mut Parser) -> Result<u16, String> {
@@ -152,8 +170,9 @@ impl Writer {
     }
 
     fn obligation(&mut self, parser: &mut Parser) -> Result<usize, String> {
-        let obligation = self.marked(parser)?;
-        Ok(push(&mut self.case.obligations, obligation))
+        let (mark, action) = self.marked(parser)?;
+        let (due, row) = due_and_row(parser)?;
+        Ok(push(&mut self.case.obligations, Obligation { mark, action, due, row }))
     }
 
     fn label(&mut self, parser: &mut Parser) -> Result<usize, String> {
@@ -191,6 +210,20 @@ fn limit(count: usize, part: usize, word: &str) -> Result<(), String> {
         true => Ok(()),
         false => Err(format!("there are more than {most} {word}s")),
     }
+}
+
+/// An obligation's due hour, which has to be told, and the row that it names, if any.
+fn due_and_row(parser: &mut Parser) -> Result<(u16, u16), String> {
+    if !parser.take_sign(';') {
+        return parser.expected("\"; due\" and an hour");
+    }
+    parser.expect("due")?;
+    let due = parser.hour()?;
+    if !parser.take_sign(';') {
+        return Ok((due, ABSENT));
+    }
+    parser.expect("done by row")?;
+    Ok((due, parser.present("a row's number")?))
 }
 
 /// A record's entries, and its span where that is not just these.

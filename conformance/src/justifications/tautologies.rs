@@ -59,7 +59,7 @@ impl Maker<'_> {
         if self.random.one_in(2) {
             return self.step(BY_LABEL, formula, label, &[demanded]);
         }
-        self.case.obligations.push((mark, action));
+        self.case.obligations.push(Obligation::new(mark, action));
         let obligation = self.case.obligations.len() as u16 - 1;
         self.step(BY_OBLIGATION, formula, obligation, &[demanded])
     }

@@ -17,7 +17,7 @@ use Rattle.case_file.specs.Booked.{Booked}
 use Rattle.case_file.specs.Seen.{SeenUpTo, SeenAfter, codeView, firstBadRow, rowsAfter}
 use Rattle.case_file.proofs.AdmissionBranches.{booked}
 use Rattle.case_file.proofs.SeenTable.{code-view}
-pub use Rattle.case_file.proofs.NamedFormulas.{formula-named, obligation-named, label-named, condition-named, audit-named, shown-named}
+pub use Rattle.case_file.proofs.NamedFormulas.{named-inside, formula-named, obligation-named, row-named-good, label-named, condition-named, audit-named, shown-named}
 
 -- A file that checks 1 to 5 let pass.
 module _ (s : List ℕ) (is : inOrder (checksToLog s) ≡ accepts tt) where

@@ -5,11 +5,13 @@ use crate::formula_numbers::ground_action;
 use crate::formula_numbers::ground_predicate;
 use case_parts::CONDITIONS;
 use case_parts::LABELS;
+use case_parts::LOG;
 use case_parts::OBLIGATIONS;
 use case_parts::action_of;
 use case_parts::agent_of;
 use case_parts::condition_formula;
 use case_parts::count_of;
+use case_parts::hour_of;
 use case_parts::label_at;
 use case_parts::obligation_at;
 use formula_rows::Term;
@@ -20,7 +22,7 @@ ghost use Rattle.definition.specs.02-Ranges.{lowest};
 ghost use Rattle.definition.specs.04-Checks.{inOrder};
 ghost use Rattle.definition.specs.11-Layout.{count, condition-part, obligation-part, label-part};
 ghost use Rattle.case_file.specs.Booked.{Booked};
-ghost use Rattle.definition.specs.15-Records.{formulas as formulasOf, isDuty, badCondition, badObligation, badLabel, badAudit, recordChecks};
+ghost use Rattle.definition.specs.15-Records.{logOf, rowsIn, formulas as formulasOf, isDuty, badCondition, badRowNamed, badObligation, badLabel, badAudit, recordChecks};
 ghost use Rattle.words.specs.Meanings.{failureMeant};
 ghost use Rattle.case_file.specs.Entries.{badEntry};
 
@@ -47,17 +49,33 @@ fn is_duty(mark: u16) -> bool
     mark == 2
 }
 
+// Is the row that an obligation names neither absent nor one of the log's, which has so many?
+fn bad_row_named(rows: usize, row: u16) -> bool
+    ensures { λ r. ⌜ r ≡ badRowNamed rows row ⌝ }
+{
+    if row == Term::ABSENT {
+        return false;
+    }
+    rows <= row as usize
+}
+
 // Check 7 of entry `k`.
 fn bad_obligation(file: &[u8], book: &[u8], k: usize) -> bool
     requires { ⌜ Booked (now file) (now book) ⌝ }
     requires { ⌜ k < count (now file) obligation-part ⌝ }
-    ensures { λ r. ⌜ r ≡ badObligation (now (file .entry)) (formulasOf (now (file .entry))) k ⌝ }
+    ensures { λ r. ⌜ r ≡ badObligation (now (file .entry)) (formulasOf (now (file .entry))) (rowsIn (logOf (now (file .entry)))) k ⌝ }
 {
     let duty = obligation_at(file, k);
     if !is_duty(duty.mark) {
         return true;
     }
-    !ground_action(book, duty.action)
+    if !ground_action(book, duty.action) {
+        return true;
+    }
+    if duty.due == Term::ABSENT {
+        return true;
+    }
+    bad_row_named(count_of(file, LOG), duty.row)
 }
 
 // Check 8 of entry `k`.
@@ -108,7 +126,7 @@ fn first_bad(file: &[u8], book: &[u8], p: usize) -> usize
     n
 }
 
-// Check 9: is the agent no agent, or the action no ground action?
+// Check 9: is the agent no agent, the action no ground action, or the audit hour absent?
 fn bad_audit(file: &[u8], book: &[u8]) -> bool
     requires { ⌜ Booked (now file) (now book) ⌝ }
     ensures { λ r. ⌜ r ≡ badAudit (now (file .entry)) (formulasOf (now (file .entry))) ⌝ }
@@ -118,7 +136,10 @@ fn bad_audit(file: &[u8], book: &[u8]) -> bool
         return true;
     }
     let action = action_of(file);
-    !ground_action(book, action)
+    if !ground_action(book, action) {
+        return true;
+    }
+    hour_of(file) == Term::ABSENT
 }
 
 // Checks 6 to 9.

@@ -9,8 +9,7 @@ use lib.ListN.{length, take, drop}
 use lib.Dec.{ltb}
 use borrow.Author.Tests.{lt-ltb, le-ltb, eq-eqb, ne-eqb}
 use Rattle.definition.proofs.PartLaws.{part-few}
-use Rattle.definition.proofs.Windows.{window-at, window-length}
-use Rattle.definition.specs.01-Words.{word}
+use Rattle.definition.proofs.Windows.{window-word, window-length}
 use Rattle.definition.specs.11-Layout.{recordBytes, mostRecords, offset, size, end, count, part, recordsIn, fieldIn, dueOffset, orphans, isMisplaced, faultyPart}
 use Rattle.definition.specs.18-Admission.{Parted}
 use Rattle.case_parts.specs.Records.{Recorded}
@@ -89,17 +88,14 @@ record-near b p k each lt e = rw e (record-inside b p k lt)
 
 -- Its bytes, from the numbers that were read, and so its fields: the one law of all records.
 pub record-is : (b : List ℕ) (p k each : ℕ) → k < recordsIn b p → each ≡ recordBytes p → Recorded b p k (take (each * k + each - each * k) (drop (each * k) b))
-unfolding fieldIn word
+unfolding fieldIn
 record-is b p k each lt e =
     let long : each * k + each - each * k ≡ recordBytes p = omega arith in
     let inside = record-inside b p k lt in
     rw (long, e)
     (record {
       long = window-length b (recordBytes p) (recordBytes p * k) inside;
-      field =
-          λ i h.
-          let next : recordBytes p * k + i + 1 ≡ recordBytes p * k + (i + 1) = omega arith in
-          rw (window-at b (recordBytes p) (recordBytes p * k) i (omega arith), window-at b (recordBytes p) (recordBytes p * k) (i + 1) (omega arith), next);
+      field = λ i h. window-word b (recordBytes p) (recordBytes p * k) i (omega arith);
     })
 
 module _ (s : List ℕ) (g : Parted s) (p : ℕ) (known : p < 8) where

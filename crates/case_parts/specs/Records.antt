@@ -5,7 +5,7 @@ use mathlib.Core.List.{List}
 use lib.ListN.{length}
 use Rattle.definition.specs.01-Words.{word}
 use Rattle.definition.specs.11-Layout.{log-part, recordBytes, fieldIn}
-use Rattle.definition.specs.15-Records.{obligationMark, obligationAction, labelMark, labelFormula, stepRule, stepFormula, stepArgument, stepFrom, stepCount}
+use Rattle.definition.specs.15-Records.{obligationMark, obligationAction, obligationDue, obligationRow, labelMark, labelFormula, stepRule, stepFormula, stepArgument, stepFrom, stepCount}
 use Rattle.case_parts.specs.declared.records.LogRow.{LogRow}
 use Rattle.case_parts.specs.declared.records.Obligation.{Obligation}
 use Rattle.case_parts.specs.declared.records.Label.{Label}
@@ -24,6 +24,8 @@ pub record RowFields (rows : List ℕ) (k : ℕ) (t : LogRow) : Type 0 where
 pub record ObligationFields (s : List ℕ) (k : ℕ) (t : Obligation) : Type 0 where
   pub mark : t .mark ≡ obligationMark s k
   pub action : t .action ≡ obligationAction s k
+  pub due : t .due ≡ obligationDue s k
+  pub row : t .row ≡ obligationRow s k
 
 pub record LabelFields (s : List ℕ) (k : ℕ) (t : Label) : Type 0 where
   pub mark : t .mark ≡ labelMark s k

@@ -1,4 +1,4 @@
-// The header and the parts: checks 1 and 2, and reading from a part. The numbers of the layout stand here.
+// The header and the parts: checks 1 and 2, and reading from the header and from a part. The numbers of the layout stand here, but for the places of the fields within a record, which are in `records.rt`.
 use words::Failure;
 ghost use mathlib.Core.Path.{_≡_};
 ghost use Prim.Native.Nat.{_<_, _≤_};
@@ -6,9 +6,25 @@ ghost use lib.ListN.{length};
 ghost use lib.Dec.{ltb};
 ghost use Rattle.definition.specs.02-Ranges.{lowest};
 ghost use Rattle.definition.specs.04-Checks.{inOrder};
-ghost use Rattle.definition.specs.11-Layout.{offset, size, end, count, headerBytes, recordBytes, mostRecords, dueOffset, badLength, orphans, isMisplaced, faultyPart, layoutChecks, recordsIn, part as partOf};
+ghost use Rattle.definition.specs.11-Layout.{agentOf, actionOf, hourOf, offset, size, end, count, headerBytes, recordBytes, mostRecords, dueOffset, badLength, orphans, isMisplaced, faultyPart, layoutChecks, recordsIn, part as partOf};
 ghost use Rattle.definition.specs.18-Admission.{Parted};
 ghost use Rattle.words.specs.Meanings.{failureMeant};
+
+// The bytes of a header, and of the largest file.
+const HEADER_BYTES: usize = 38;
+
+pub const LARGEST_FILE: usize = 47910;
+
+// Where the header has the audited agent, the audited action, the offset and the length of the first part, and the audit hour.
+const AGENT: usize = 0;
+
+const ACTION: usize = 2;
+
+const FIRST_OFFSET: usize = 4;
+
+const FIRST_SIZE: usize = 6;
+
+const HOUR: usize = 36;
 
 // The parts, by their places.
 pub const FORMULAS: usize = 0;
@@ -36,7 +52,7 @@ pub fn record_bytes(p: usize) -> usize
         1 => 6,
         2 => 2,
         3 => 2,
-        4 => 4,
+        4 => 8,
         5 => 4,
         6 => 10,
         7 => 2,
@@ -66,7 +82,7 @@ pub fn part_offset(file: &[u8], p: usize) -> u16
     requires { ⌜ (headerBytes ≤ length (now file)) × (p < 8) ⌝ }
     ensures { λ r. ⌜ r ≡ offset (now (file .entry)) p ⌝ }
 {
-    words::read_word(file, 4 * p + 4)
+    words::read_word(file, 4 * p + FIRST_OFFSET)
 }
 
 // How many bytes part `p` has, as the header says it.
@@ -74,17 +90,17 @@ pub fn part_size(file: &[u8], p: usize) -> u16
     requires { ⌜ (headerBytes ≤ length (now file)) × (p < 8) ⌝ }
     ensures { λ r. ⌜ r ≡ size (now (file .entry)) p ⌝ }
 {
-    words::read_word(file, 4 * p + 6)
+    words::read_word(file, 4 * p + FIRST_SIZE)
 }
 
 // Check 1.
 fn bad_length(file: &[u8]) -> bool
     ensures { λ r. ⌜ r ≡ badLength (now (file .entry)) ⌝ }
 {
-    if file.len() < 36 {
+    if file.len() < HEADER_BYTES {
         return true;
     }
-    47652 < file.len()
+    LARGEST_FILE < file.len()
 }
 
 // Where part `p` has to begin.
@@ -93,7 +109,7 @@ fn due_offset(file: &[u8], p: usize) -> usize
     ensures { λ r. ⌜ r ≡ dueOffset (now (file .entry)) p ⌝ }
 {
     if p == 0 {
-        return 36;
+        return HEADER_BYTES;
     }
     part_offset(file, p - 1) as usize + part_size(file, p - 1) as usize
 }
@@ -186,6 +202,30 @@ pub fn check_layout(file: &[u8]) -> Failure
         return Failure::At(2, faulty as u16);
     }
     Failure::None
+}
+
+// The audited agent.
+pub fn agent_of(file: &[u8]) -> u16
+    requires { ⌜ Parted (now file) ⌝ }
+    ensures { λ r. ⌜ r ≡ agentOf (now (file .entry)) ⌝ }
+{
+    words::read_word(file, AGENT)
+}
+
+// The audited action.
+pub fn action_of(file: &[u8]) -> u16
+    requires { ⌜ Parted (now file) ⌝ }
+    ensures { λ r. ⌜ r ≡ actionOf (now (file .entry)) ⌝ }
+{
+    words::read_word(file, ACTION)
+}
+
+// The audit hour.
+pub fn hour_of(file: &[u8]) -> u16
+    requires { ⌜ Parted (now file) ⌝ }
+    ensures { λ r. ⌜ r ≡ hourOf (now (file .entry)) ⌝ }
+{
+    words::read_word(file, HOUR)
 }
 
 // The bytes of part `p`.

@@ -11,26 +11,10 @@ use crate::layout::record_bytes;
 use words::read_word;
 ghost use mathlib.Core.Path.{_≡_};
 ghost use Prim.Native.Nat.{_<_, _≤_};
-ghost use Rattle.definition.specs.11-Layout.{log-part, observer-part, condition-part, obligation-part, label-part, step-part, premise-part, count, recordsIn, agentOf, actionOf, part as partOf};
+ghost use Rattle.definition.specs.11-Layout.{log-part, observer-part, condition-part, obligation-part, label-part, step-part, premise-part, count, recordsIn, part as partOf};
 ghost use Rattle.definition.specs.15-Records.{observer as observerOf, conditionFormula, premiseStep, spanFault};
 ghost use Rattle.definition.specs.18-Admission.{Parted};
 ghost use Rattle.case_parts.specs.Records.{Recorded, RowFields, ObligationFields, LabelFields, StepFields};
-
-// The audited agent.
-pub fn agent_of(file: &[u8]) -> u16
-    requires { ⌜ Parted (now file) ⌝ }
-    ensures { λ r. ⌜ r ≡ agentOf (now (file .entry)) ⌝ }
-{
-    read_word(file, 0)
-}
-
-// The audited action.
-pub fn action_of(file: &[u8]) -> u16
-    requires { ⌜ Parted (now file) ⌝ }
-    ensures { λ r. ⌜ r ≡ actionOf (now (file .entry)) ⌝ }
-{
-    read_word(file, 2)
-}
 
 // Record `k` of the bytes of a part `p`.
 fn record_of(bytes: &[u8], p: usize, k: usize) -> &[u8]
@@ -89,10 +73,12 @@ pub fn condition_formula(file: &[u8], k: usize) -> u16
     read_word(bytes, 0)
 }
 
-// An obligation: its mark, and its action.
+// An obligation: its mark, its action, the hour by which it is due, and the log row that did it, or 65,535.
 pub struct Obligation {
     pub mark: u16,
     pub action: u16,
+    pub due: u16,
+    pub row: u16,
 }
 
 pub fn obligation_at(file: &[u8], k: usize) -> Obligation
@@ -103,6 +89,8 @@ pub fn obligation_at(file: &[u8], k: usize) -> Obligation
     Obligation {
         mark: read_word(bytes, 0),
         action: read_word(bytes, 2),
+        due: read_word(bytes, 4),
+        row: read_word(bytes, 6),
     }
 }
 

@@ -61,7 +61,7 @@ fn read_on(done: usize, got: &mut isize, piece: &mut [u8], buffer: &mut [u8]) ->
     read_piece(done, got, &mut piece[..most], buffer)
 }
 
-// Reads until the input ends, a read fails or the buffer is full: at most 47,653 bytes, one more than the longest file has.
+// Reads until the input ends, a read fails or the buffer is full, which has one byte more than the longest file.
 pub fn read_case(got: &mut isize, piece: &mut [u8], buffer: &mut [u8]) -> Reading
     requires { ⌜ 0 < length (now piece) ⌝ }
     requires { ⌜ length (now buffer) ≡ mostRead ⌝ }

@@ -12,11 +12,15 @@ ghost use Rattle.check_case.specs.Told.{Tells, Judged};
 ghost use Rattle.check_case.specs.Written.{Written};
 ghost use Rattle.definition.specs.33-Text.{answerText};
 ghost use Rattle.definition.specs.34-Program.{mostRead, printed};
+use case_parts::LARGEST_FILE;
 use input::Reading;
 use input::read_case;
 use libc::STDERR_FILENO;
 use libc::STDOUT_FILENO;
 use report::report;
+
+// The most bytes that are read: one more than the largest file has, so that a longer input is refused for its length.
+const MOST_READ: usize = LARGEST_FILE + 1;
 
 // What there is to print: a text of so many bytes, or nothing.
 enum Told {
@@ -61,11 +65,11 @@ fn judge_input(got: &mut isize, piece: &mut [u8], case: &mut [u8], text: &mut [u
     tell(reading, case, text)
 }
 
-// Writes what there is to print, or that there is nothing. A case that is too long is read one byte too far, so that it is refused for its length.
+// Writes what there is to print, or that there is nothing.
 fn main() {
     let mut got = 0isize;
     let mut piece = io::buffer();
-    let mut case = [0u8; 47653];
+    let mut case = [0u8; MOST_READ];
     let mut text = [0u8; 12000];
     match judge_input(&mut got, &mut piece, &mut case, &mut text) {
         Told::Text(end) => {

@@ -11,6 +11,7 @@ use borrow.Author.Tests.{lt-ltb, le-ltb}
 use Rattle.definition.proofs.AdmissionLaws.{admitted-logged}
 use Rattle.definition.proofs.CheckLaws.{stops, all-hold, hold-all, skip-before, stop-before}
 use Rattle.definition.proofs.PromiseLaws as promises
+use Rattle.definition.proofs.RefusalTable.{none-owed-of}
 use Rattle.definition.proofs.States.{steps-fine}
 use Rattle.definition.proofs.StepLaws.{fine-shaped}
 use Rattle.definition.specs.04-Checks.{AllHold, Checked, accepts, refuses, _>>_, single, inOrder}
@@ -19,7 +20,8 @@ use Rattle.definition.specs.13-Formulas.{Formula}
 use Rattle.definition.specs.17-Case.{Case, caseOf}
 use Rattle.definition.specs.18-Admission.{admissionChecks, admission}
 use Rattle.definition.specs.22-Steps.{State, startState, checksOfSteps, stateAt}
-use Rattle.definition.specs.31-Outcome.{Finding, owes, isOwed, hasSteps, noProof, needlessProof, needed, shortRoom, dischargedList, citedList, owingChecks, closingChecks, roomChecks, endChecks, finalState, proofChecks, checksIfOwed, caseChecks, allChecks, foundIfOwed, found, finding, report, outcome}
+use Rattle.definition.specs.23-Duties.{dutyChecks}
+use Rattle.definition.specs.31-Outcome.{Finding, owes, isOwed, hasSteps, needlessProof, needed, shortRoom, dischargedList, citedList, owingChecks, closingChecks, roomChecks, endChecks, finalState, proofChecks, checksIfOwed, caseChecks, allChecks, foundIfOwed, found, finding, report, outcome}
 use Rattle.definition.specs.45-Promises.{Answered}
 use Rattle.case_file.proofs.Laws.{logged-booked, table-view}
 use Rattle.case_file.specs.AdmissionRuns.{beforeLog}
@@ -29,7 +31,7 @@ use Rattle.case_file.specs.LentCase.{Lent, CaseLent}
 use Rattle.case_parts.specs.ShapedSteps.{EarlierNumbered}
 use Rattle.checker.proofs.StepRun.{all-accepted}
 use Rattle.checker.specs.Meanings.{verdictMeant}
-use Rattle.checker.specs.Reports.{listing, concluding, proof, justifying, Reported}
+use Rattle.checker.specs.Reports.{listing, concluding, proof, nothing, justifying, Reported}
 use Rattle.checker.specs.StepRuns.{afterRun}
 use Rattle.checker.specs.declared.verdict.Verdict.{Verdict}
 use Rattle.checker.specs.declared.verdict.Verdict.the-variants.{Passed, NoneOwed, Refused}
@@ -61,16 +63,26 @@ module _ (c : Case) (s : State) (room : List ℕ) where
       let passed = hold-all (single 23 n (ltb (length room) n) ∷ []) (fits, tt) in
       record { verdict = rw (passed, e, f); room-is = is ∙ rw (passed, e, f) }
 
-  -- One of checks 20 to 22 fails, or all of them hold.
-  pub end-refused : (n p : ℕ) → refuses n p ≡ inOrder (closingChecks c s) → Reported (concluding c s (length room)) room (Refused n p) room
+  -- One of the checks before 23 fails, or all of them hold.
+  pub end-refused : (n p : ℕ) → refuses n p ≡ inOrder (closingChecks c s ++ dutyChecks c) → Reported (concluding c s (length room)) room (Refused n p) room
   unfolding concluding endChecks _>>_
-  end-refused n p e = refusal-reported (concluding c s (length room)) room n p (rw (← stop-before (closingChecks c s) (roomChecks c s (length room)) e))
+  end-refused n p e = refusal-reported (concluding c s (length room)) room n p (rw (← stop-before (closingChecks c s ++ dutyChecks c) (roomChecks c s (length room)) e))
 
   pub end-listing :
-      (r : Verdict) (after : List ℕ) → accepts tt ≡ inOrder (closingChecks c s) →
+      (r : Verdict) (after : List ℕ) → accepts tt ≡ inOrder (closingChecks c s ++ dutyChecks c) →
       Reported (listing c s (length room)) room r after → Reported (concluding c s (length room)) room r after
   unfolding concluding endChecks listing
-  end-listing r after e = reported-as (rw (skip-before (closingChecks c s) (roomChecks c s (length room)) (all-hold (closingChecks c s) (sym e))))
+  end-listing r after e = reported-as (rw (skip-before (closingChecks c s ++ dutyChecks c) (roomChecks c s (length room)) (all-hold (closingChecks c s ++ dutyChecks c) (sym e))))
+
+-- The duties, where nothing is owed and there are no steps: one of their checks fails, or both hold.
+module _ (c : Case) (room : List ℕ) where
+  pub duties-refused : (n p : ℕ) → refuses n p ≡ inOrder (dutyChecks c) → Reported (nothing c) room (Refused n p) room
+  unfolding nothing _>>_
+  duties-refused n p e = refusal-reported (nothing c) room n p (rw (← e))
+
+  pub none-owed-reported : accepts tt ≡ inOrder (dutyChecks c) → Reported (nothing c) room NoneOwed room
+  unfolding nothing report verdictMeant _>>_
+  none-owed-reported e = record { verdict = rw (← e); room-is = rw (← e) }
 
 -- The steps, and what follows them.
 pub proof-refused : (c : Case) (room n p : ℕ) → refuses n p ≡ inOrder (checksOfSteps c (c .steps) 0 startState) → proof c room ≡ refuses n p
@@ -108,21 +120,16 @@ module _ (c : Case) (room : List ℕ) where
     unfolding caseChecks
     passed = skip-before (owingChecks c) (checksIfOwed (owes c) c (length room)) holds
 
-    none-reported : owes c ≡ none → Reported (justifying c (length room)) room NoneOwed room
-    unfolding justifying checksIfOwed found foundIfOwed report verdictMeant inOrder _>>_
-    none-reported e = record { verdict = rw (passed, e); room-is = rw (passed, e) }
+    none-reported : owes c ≡ none → {r : Verdict} → Reported (nothing c) room r room → Reported (justifying c (length room)) room r room
+    unfolding justifying nothing checksIfOwed found foundIfOwed
+    none-reported e = reported-as (rw (passed, e))
 
     some-reported : (f : Formula) → owes c ≡ some f → (r : Verdict) (after : List ℕ) → Reported (proof c (length room)) room r after → Reported (justifying c (length room)) room r after
     unfolding justifying proof checksIfOwed found foundIfOwed
     some-reported f e r after = reported-as (rw (passed, e))
 
-    pub nothing-owed-reported : c .steps ≡ 0 → Reported (justifying c (length room)) room NoneOwed room
-    unfolding owingChecks noProof isOwed hasSteps
-    nothing-owed-reported z = go (owes c) refl
-      where
-        go : (o : Option Formula) → owes c ≡ o → Reported (justifying c (length room)) room NoneOwed room
-        go none e = none-reported e
-        go (some f) e = absurd (true≢false (rw (e, z) at (holds .0)))
+    pub nothing-owed-reported : c .steps ≡ 0 → {r : Verdict} → Reported (nothing c) room r room → Reported (justifying c (length room)) room r room
+    nothing-owed-reported z h = none-reported (none-owed-of c holds z) h
 
     pub steps-reported : 0 < c .steps → (r : Verdict) (after : List ℕ) → Reported (proof c (length room)) room r after → Reported (justifying c (length room)) room r after
     unfolding owingChecks needlessProof isOwed hasSteps

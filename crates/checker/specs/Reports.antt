@@ -5,7 +5,8 @@ use mathlib.Core.List.{List}
 use Rattle.definition.specs.04-Checks.{Checked, accepts, _>>_, inOrder}
 use Rattle.definition.specs.17-Case.{Case}
 use Rattle.definition.specs.22-Steps.{State}
-use Rattle.definition.specs.31-Outcome.{Finding, justified, dischargedList, citedList, roomChecks, endChecks, finalState, proofChecks, caseChecks, found, report}
+use Rattle.definition.specs.23-Duties.{dutyChecks}
+use Rattle.definition.specs.31-Outcome.{Finding, justified, nothing-owed, dischargedList, citedList, roomChecks, endChecks, finalState, proofChecks, caseChecks, found, report}
 use Rattle.checker.specs.Meanings.{verdictMeant}
 use Rattle.checker.specs.declared.verdict.Verdict.{Verdict}
 
@@ -15,7 +16,7 @@ listing c s room = do
   inOrder (roomChecks c s room)
   accepts (justified (dischargedList c s) (citedList c s))
 
--- Checks 20 to 23, of the state that the steps have left.
+-- Checks 20 to 23, and the duties', of the state that the steps have left.
 unfoldable pub concluding : Case → State → ℕ → Checked Finding
 concluding c s room = do
   inOrder (endChecks c s room)
@@ -26,6 +27,12 @@ unfoldable pub proof : Case → ℕ → Checked Finding
 proof c room = do
   inOrder (proofChecks c room)
   accepts (justified (dischargedList c (finalState c)) (citedList c (finalState c)))
+
+-- Where nothing is owed and there are no steps: the checks of the duties.
+unfoldable pub nothing : Case → Checked Finding
+nothing c = do
+  inOrder (dutyChecks c)
+  accepts nothing-owed
 
 -- Checks 10 and 11, and where a proof is owed those of its steps and after them.
 unfoldable pub justifying : Case → ℕ → Checked Finding

@@ -9,11 +9,13 @@ use case_parts::action_of;
 use case_parts::agent_of;
 use case_parts::count_of;
 use case_parts::part;
+use duties::check_duties;
 use rules::Policy;
 use rules::owed_by;
 use words::Failure;
 ghost use mathlib.Core.Path.{_≡_};
-ghost use Prim.Native.Nat.{_<_};
+ghost use mathlib.Core.List.{List};
+ghost use Prim.Native.Nat.{ℕ, _<_};
 ghost use lib.ListN.{length};
 ghost use Rattle.definition.specs.04-Checks.{inOrder};
 ghost use Rattle.definition.specs.11-Layout.{step-part, count};
@@ -23,7 +25,7 @@ ghost use Rattle.definition.specs.45-Promises.{Answered};
 ghost use Rattle.words.specs.Meanings.{failureMeant};
 ghost use Rattle.case_file.specs.LentCase.{Lent, CaseLent};
 ghost use Rattle.checker.specs.Meanings.{verdictMeant};
-ghost use Rattle.checker.specs.Reports.{proof, justifying, Reported};
+ghost use Rattle.checker.specs.Reports.{proof, nothing, justifying, Reported};
 
 // The checks of the steps of a case that has some, and those after them.
 fn check_steps(file: &[u8], book: &[u8], views: &[u16; 1024], room: &mut [u16]) -> Verdict
@@ -36,7 +38,7 @@ fn check_steps(file: &[u8], book: &[u8], views: &[u16; 1024], room: &mut [u16]) 
     let ran = run_steps(file, book, views, &mut left, &mut cited, &mut discharged);
     match ran {
         Failure::At(number, place) => Verdict::Refused(number, place),
-        Failure::None => conclude(file, book, &left, &cited, &discharged, room),
+        Failure::None => conclude(file, book, views, &left, &cited, &discharged, room),
     }
 }
 
@@ -64,6 +66,18 @@ fn check_owing(file: &[u8], book: &[u8]) -> Failure
     }
 }
 
+// Where nothing is owed and there are no steps: checks 31 and 32, and then "none owed". The room has no part in it.
+fn check_owing_nothing(file: &[u8], book: &[u8], views: &[u16; 1024]) -> Verdict
+    requires { ⌜ CaseLent (now file) (now book) (now views) ⌝ }
+    ensures { λ r. ⌜ ((room : List ℕ) → Reported (nothing (caseOf (now (file .entry)))) room r room) ⌝ }
+{
+    let duties = check_duties(file, book, views);
+    match duties {
+        Failure::At(number, place) => Verdict::Refused(number, place),
+        Failure::None => Verdict::NoneOwed,
+    }
+}
+
 // What follows the admission: 10 and 11, the steps, and what comes after them. Where 10 and 11 let it pass, something is owed just if there are steps.
 pub fn check_admitted(file: &[u8], book: &[u8], views: &[u16; 1024], room: &mut [u16]) -> Verdict
     requires { ⌜ CaseLent (now file) (now book) (now views) ⌝ }
@@ -74,7 +88,7 @@ pub fn check_admitted(file: &[u8], book: &[u8], views: &[u16; 1024], room: &mut 
         Failure::At(number, place) => Verdict::Refused(number, place),
         Failure::None => {
             if count_of(file, STEPS) == 0 {
-                return Verdict::NoneOwed;
+                return check_owing_nothing(file, book, views);
             }
             check_steps(file, book, views, room)
         }

@@ -1,4 +1,4 @@
-// The end of a justification: checks 20 to 23, and the two lists.
+// The end of a justification: checks 20 to 22, those of the duties, 23, and the two lists.
 use crate::verdict::Verdict;
 use case_parts::LABELS;
 use case_parts::LOG;
@@ -8,6 +8,7 @@ use case_parts::action_of;
 use case_parts::agent_of;
 use case_parts::count_of;
 use case_parts::step_at;
+use duties::check_duties;
 use rules::is_that;
 use rules::owed_by;
 use tables::OpenSet;
@@ -17,7 +18,7 @@ use tables::opens_at;
 use tables::write_lists;
 use words::Failure;
 ghost use mathlib.Core.Path.{_≡_};
-ghost use mathlib.Core.List.{List};
+ghost use mathlib.Core.List.{List, _++_};
 ghost use mathlib.Core.Bool.{Bool};
 ghost use Prim.Native.Nat.{ℕ, _+_, _<_, _≤_};
 ghost use lib.ListN.{length};
@@ -26,11 +27,12 @@ ghost use Rattle.definition.specs.04-Checks.{inOrder};
 ghost use Rattle.definition.specs.11-Layout.{step-part, count};
 ghost use Rattle.definition.specs.18-Admission.{Parted};
 ghost use Rattle.definition.specs.17-Case.{caseOf};
+ghost use Rattle.definition.specs.23-Duties.{dutyChecks};
 ghost use Rattle.definition.specs.31-Outcome.{wrongEnd, closingChecks};
 ghost use Rattle.words.specs.Meanings.{failureMeant};
 ghost use Rattle.tables.specs.Sets.{labelsOf};
 ghost use Rattle.steps.specs.WorkingTables.{stateOf, Tables};
-ghost use Rattle.case_file.specs.LentCase.{Lent};
+ghost use Rattle.case_file.specs.LentCase.{Lent, CaseLent};
 ghost use Rattle.case_parts.specs.ShapedSteps.{EarlierNumbered};
 ghost use Rattle.checker.specs.Reports.{listing, concluding, Reported};
 
@@ -99,21 +101,35 @@ fn check_closing(file: &[u8], book: &[u8], left: &[u64; 2048]) -> Failure
     Failure::None
 }
 
-// Checks 20 to 23, after the last step, and the lists.
+// Checks 20 to 22, and 31 and 32 behind them: all that comes before the room.
+fn check_ending(file: &[u8], book: &[u8], views: &[u16; 1024], left: &[u64; 2048]) -> Failure
+    requires { ⌜ CaseLent (now file) (now book) (now views) ⌝ }
+    requires { ⌜ (0 < count (now file) step-part) × EarlierNumbered (now file) (count (now file) step-part) ⌝ }
+    ensures { λ r. ⌜ ((c d : List Bool) → failureMeant r ≡ inOrder (closingChecks (caseOf (now (file .entry))) (stateOf (now (left .entry)) c d) ++ dutyChecks (caseOf (now (file .entry))))) ⌝ }
+{
+    let closing = check_closing(file, book, left);
+    match closing {
+        Failure::At(number, place) => Failure::At(number, place),
+        Failure::None => check_duties(file, book, views),
+    }
+}
+
+// Checks 20 to 23, with 31 and 32 before 23, after the last step, and the lists.
 pub fn conclude(
     file: &[u8],
     book: &[u8],
+    views: &[u16; 1024],
     left: &[u64; 2048],
     cited: &[bool],
     discharged: &[bool],
     room: &mut [u16],
 ) -> Verdict
-    requires { ⌜ Lent (now file) (now book) × Tables (now left) (now cited) (now discharged) ⌝ }
+    requires { ⌜ CaseLent (now file) (now book) (now views) × Tables (now left) (now cited) (now discharged) ⌝ }
     requires { ⌜ (0 < count (now file) step-part) × EarlierNumbered (now file) (count (now file) step-part) ⌝ }
     ensures { λ r. ⌜ Reported (concluding (caseOf (now (file .entry))) (stateOf (now (left .entry)) (now (cited .entry)) (now (discharged .entry))) (length (now (room .entry)))) (now (room .entry)) r (now (room .exit)) ⌝ }
 {
-    let closing = check_closing(file, book, left);
-    match closing {
+    let ending = check_ending(file, book, views, left);
+    match ending {
         Failure::At(number, place) => Verdict::Refused(number, place),
         Failure::None => list_cited(file, cited, discharged, room),
     }

@@ -73,7 +73,7 @@ module _ (s : List ℕ) (is : admission s ≡ accepts tt) where
   unfolding recordChecks
   admitted-condition = by-number 6 (recordChecks s) (both .1) .0
 
-  pub admitted-obligation : (k : ℕ) → k < count s obligation-part → badObligation s (formulas s) k ≡ false
+  pub admitted-obligation : (k : ℕ) → k < count s obligation-part → badObligation s (formulas s) (rowsIn (logOf s)) k ≡ false
   unfolding recordChecks
   admitted-obligation = by-number 7 (recordChecks s) (both .1) .0
 

@@ -8,9 +8,9 @@ use Rattle.definition.proofs.ViewLaws.{views-alike}
 use Rattle.definition.specs.04-Checks.{single, each}
 use Rattle.definition.specs.11-Layout.{formula-part, condition-part, obligation-part, label-part, step-part, premise-part, agentOf, part, count, field}
 use Rattle.definition.specs.14-Book.{treeIn, strayRow}
-use Rattle.definition.specs.15-Records.{logOf, formulas, conditionFormula, obligationMark, obligationAction, labelMark, labelFormula, stepRule, stepFormula, stepArgument, stepFrom, stepCount, premiseStep, badCondition, badObligation, badLabel, badAudit, recordChecks}
+use Rattle.definition.specs.15-Records.{logOf, formulas, conditionFormula, obligationMark, obligationAction, obligationDue, obligationRow, labelMark, labelFormula, stepRule, stepFormula, stepArgument, stepFrom, stepCount, premiseStep, badCondition, badObligation, badLabel, badAudit, recordChecks}
 use Rattle.definition.specs.16-Views.{rowView}
-use Rattle.definition.specs.17-Case.{reading, caseOf}
+use Rattle.definition.specs.17-Case.{reading, rowNamed, caseOf}
 use Rattle.definition.specs.18-Admission.{Parted}
 use Rattle.definition.specs.43-Alike.{Alike}
 
@@ -38,7 +38,7 @@ module _ (s t : List ℕ) (f : Parted s) (g : Parted t) (a : Alike s t) where
   same-records = same-count s t f g
 
   same-case : caseOf s ≡ caseOf t
-  unfolding caseOf conditionFormula obligationMark obligationAction labelMark labelFormula stepRule stepFormula stepArgument stepFrom stepCount premiseStep
+  unfolding caseOf conditionFormula obligationMark obligationAction obligationDue obligationRow labelMark labelFormula stepRule stepFormula stepArgument stepFrom stepCount premiseStep
   same-case =
       let condition = same-field s t condition-part (a .conditions) in
       let obligation = same-field s t obligation-part (a .obligations) in
@@ -49,12 +49,13 @@ module _ (s t : List ℕ) (f : Parted s) (g : Parted t) (a : Alike s t) where
       record {
         agent = a .agent i;
         action = treeIn l (a .action i);
+        hour = a .hour i;
         rows = a .log .rows i;
         row = same-views i;
         conditions = same-records condition-part (omega arith) (a .conditions) i;
         condition = λ k. reading l (condition k 0 i);
         obligations = same-records obligation-part (omega arith) (a .obligations) i;
-        obligation = λ k. record { mark = obligation k 0 i; formula = treeIn l (obligation k 2 i) };
+        obligation = λ k. record { mark = obligation k 0 i; formula = treeIn l (obligation k 2 i); due = obligation k 4 i; row = rowNamed (obligation k 6 i) };
         labels = same-records label-part (omega arith) (a .labels) i;
         label = λ k. record { mark = label k 0 i; formula = treeIn l (label k 2 i) };
         steps = same-records step-part (omega arith) (a .steps) i;
@@ -68,8 +69,8 @@ module _ (s t : List ℕ) (f : Parted s) (g : Parted t) (a : Alike s t) where
   same-condition = fun-ext λ l. fun-ext λ k. rw (a .conditions)
 
   same-obligation : badObligation s ≡ badObligation t
-  unfolding badObligation obligationMark obligationAction field
-  same-obligation = fun-ext λ l. fun-ext λ k. rw (a .obligations)
+  unfolding badObligation obligationMark obligationAction obligationDue obligationRow field
+  same-obligation = fun-ext λ l. fun-ext λ n. fun-ext λ k. rw (a .obligations)
 
   same-label : badLabel s ≡ badLabel t
   unfolding badLabel labelMark labelFormula field
@@ -77,14 +78,14 @@ module _ (s t : List ℕ) (f : Parted s) (g : Parted t) (a : Alike s t) where
 
   same-audit : badAudit s ≡ badAudit t
   unfolding badAudit
-  same-audit = fun-ext λ l. rw (a .agent, a .action)
+  same-audit = fun-ext λ l. rw (a .agent, a .action, a .hour)
 
   same-checks : recordChecks s ≡ recordChecks t
   unfolding recordChecks
   same-checks =
       λ i. let l = same-trees i in
       each 6 (same-records condition-part (omega arith) (a .conditions) i) (same-condition i l)
-      ∷ each 7 (same-records obligation-part (omega arith) (a .obligations) i) (same-obligation i l)
+      ∷ each 7 (same-records obligation-part (omega arith) (a .obligations) i) (same-obligation i l (a .log .rows i))
       ∷ each 8 (same-records label-part (omega arith) (a .labels) i) (same-label i l)
       ∷ single 9 0 (same-audit i l)
       ∷ []

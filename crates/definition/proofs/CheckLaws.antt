@@ -1,7 +1,7 @@
 -- Laws of runs of checks: what it takes that one accepts, and where a refusal comes from. Each by the cases of its first check.
 -- Assumes nothing.
 use Prim.Native.Nat.{ℕ, _+_, _≤_, _<_}
-use mathlib.Core.Path.{_≡_, refl, sym, _∙_}
+use mathlib.Core.Path.{_≡_, refl, sym, ap, _∙_}
 use mathlib.Core.Bool.{Bool, true, false, _||_}
 use mathlib.Core.Logic.{_⊎_, inl, inr, ⊎-elim}
 use mathlib.Core.List.{List, [], _∷_, _++_}
@@ -218,13 +218,17 @@ abbrev pub hasNumber : ℕ → List Check → Bool
 hasNumber n = hasOne (λ m. eqb m n)
 
 -- A check that fails has one of the list's numbers.
-failing-number : (c : Check) (n p : ℕ) → Fails c n p → numberOf c ≡ n
+pub failing-number : (c : Check) (n p : ℕ) → Fails c n p → numberOf c ≡ n
 failing-number (single m q fault) n p f = f .0
 failing-number (each m count fault) n p f = f .0
 
-has-number : {cs : List Check} {n p : ℕ} → FirstFault cs n p → hasNumber n cs ≡ true
-has-number (here {c = c} {cs = cs} {n = n} {p = p} f) = or-intro-left (hasNumber n cs) (eq-eqb (numberOf c) n (failing-number c n p f))
-has-number (later {c = c} {cs = cs} {n = n} h f) = or-intro-right (eqb (numberOf c) n) (has-number f)
+has-one : (is : ℕ → Bool) {cs : List Check} {n p : ℕ} → is n ≡ true → FirstFault cs n p → hasOne is cs ≡ true
+has-one is e (here {c = c} {cs = cs} {n = n} {p = p} f) = or-intro-left (hasOne is cs) (ap is (failing-number c n p f) ∙ e)
+has-one is e (later {c = c} {cs = cs} h f) = or-intro-right (is (numberOf c)) (has-one is e f)
+
+-- So a list that has no such number has no fault of such a number; and one without this number none of this.
+pub none-such : {A : Type 0} (is : ℕ → Bool) (cs : List Check) {n p : ℕ} → hasOne is cs ≡ false → is n ≡ true → FirstFault cs n p → A
+none-such is cs e such f = absurd (not-both (has-one is such f) e)
 
 pub other-number : {A : Type 0} (cs : List Check) {n p : ℕ} → hasNumber n cs ≡ false → FirstFault cs n p → A
-other-number cs e f = absurd (not-both (has-number f) e)
+other-number cs {n = n} e f = none-such (λ m. eqb m n) cs e (eq-eqb n n refl) f

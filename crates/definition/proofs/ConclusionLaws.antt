@@ -11,7 +11,7 @@ use Rattle.definition.specs.13-Formulas.{Formula, predicate, owns, says,
 use Rattle.definition.specs.21-Rules.{conclusion, owed}
 use Rattle.definition.specs.42-Account.{Concludes, told, made, Owes, telling, acting}
 
-pub none-some : {f : Formula} → none ≡ some f → ⊥
+pub none-some : {A : Type 0} {x : A} → none ≡ some x → ⊥
 none-some e = let z : _≡_ {A = ℕ} 0 1 = cc in omega arith
 
 -- what stands behind a test of two agents was given by it

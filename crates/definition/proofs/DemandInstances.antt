@@ -29,7 +29,7 @@ use Rattle.definition.specs.01-Words.{absent}
 use Rattle.definition.specs.02-Ranges.{all}
 use Rattle.definition.specs.03-Lists.{joinAll}
 use Rattle.definition.specs.04-Checks.{single, each, Holds, Fails, AllHold, here, later, accepts, refuses, inOrder}
-use Rattle.definition.specs.13-Formulas.{Formula, implies, each-use, once, nodes}
+use Rattle.definition.specs.13-Formulas.{implies, each-use, once, nodes}
 use Rattle.definition.specs.14-Book.{bookRows, treeIn, book, sizeColumn, rowsOf}
 use Rattle.definition.specs.15-Records.{Log, logOf, stepFormula}
 use Rattle.definition.specs.17-Case.{caseOf}
@@ -38,23 +38,24 @@ use Rattle.definition.specs.19-Rewriting.{strike}
 use Rattle.definition.specs.22-Steps.{usedIn, premisesOf, misshapen, badPremises, stepChecks, stateAt}
 use Rattle.definition.specs.31-Outcome.{lastStep, unusedStep, openLabel, owingChecks, finalState, refused, outcome}
 use Rattle.definition.specs.35-Index.{indexOf, building, outcomeThrough}
-use Rattle.definition.specs.42-Account.{Owes}
-use Rattle.definition.specs.44-Demands.{StepsHold, InTable, in-step, in-end, Passes, Justified, Needs, Lists, HeaderOfBytes}
+use Rattle.definition.specs.42-Account.{DutiesKept}
+use Rattle.definition.specs.44-Demands.{StepsHold, InTable, in-step, in-end, OwesNothing, Passes, Justified, Needs, Lists, HeaderOfBytes}
 use Rattle.definition.specs.46-Requests.{StrayTold, RefiningTold, AccountOf, RefinesWithoutLog, SizeHeld, ColumnAfter}
 use Rattle.definition.specs.47-Indexed.{IsIndex, AsBuilt, FileIndexRoom}
-use Rattle.definition.specs.51-Files.{createsRow}
+use Rattle.definition.specs.51-Files.{notDue, createsRow}
 use Rattle.definition.specs.52-Evaluation.{evaluated}
 use Rattle.definition.specs.53-Desk.{lent, grantWith, grant, visit, twice, built}
 use Rattle.definition.specs.55-HiddenRows.{twoRows, oneWay, otherWay, ways-alike, ways-made}
 use Rattle.definition.specs.56-SeenRows.{fourRows, rows-admitted}
-use Rattle.definition.specs.58-Table.{grantByte, grantAnd, laterPremise, supposedOwed, stray, line, reasoned, refiningBy, refining, tautologyAt, nested, builtTable}
+use Rattle.definition.specs.58-Table.{grantByte, grantAnd, laterPremise, supposedOwed, builtTable}
 use Rattle.definition.specs.59-Sizes.{lentColumn, doubled, withLarge, withRepeat, builtSizes}
 use Rattle.definition.specs.60-Indexes.{shared, sharedIndex, indexRoom, builtIndexes}
+use Rattle.definition.specs.62-StepFaults.{stray, line, reasoned, refiningBy, refining, tautologyAt, nested, builtSteps}
 
 -- Demand 1: what a refusal by 2, 4, 13, 17, 21 and 23 says.
-pub part-told : InTable (grantByte 4 35) 3 2 0
+pub part-told : InTable (grantByte 4 37) 3 2 0
 unfolding builtTable
-part-told = refused-by-table (grantByte 4 35) lent 2 0 .0 refl
+part-told = refused-by-table (grantByte 4 37) lent 2 0 .0 refl
 
 pub repeat-told : InTable (grantAnd (createsRow 0 16384 ∷ []) (0 ∷ []) [] [] []) 3 4 5
 unfolding builtTable
@@ -64,9 +65,9 @@ pub premise-told : InTable laterPremise 3 13 1
 unfolding builtTable
 premise-told = refused-by-table laterPremise lent 13 1 .0 refl
 
-pub second-use-told : InTable (twice each-use (each-use ∷ 0 ∷ []) 0) 3 17 5
+pub second-use-told : InTable (twice each-use (notDue each-use 0 ∷ []) 0) 3 17 5
 unfolding built
-second-use-told = refused-by-table (twice each-use (each-use ∷ 0 ∷ []) 0) lent 17 5 .0 refl
+second-use-told = refused-by-table (twice each-use (notDue each-use 0 ∷ []) 0) lent 17 5 .0 refl
 
 pub open-label-told : InTable supposedOwed 3 21 0
 unfolding builtTable
@@ -78,59 +79,59 @@ short-room-told = refused-by-table grant [] 23 1 .0 refl
 
 -- Refusals by 27: the lowest of two rows, of which a walk from the left meets the other first; in two files with the same formulas, whose owner steps have the same formula and other premises.
 pub lowest-told : StrayTold (stray 5 (2 ∷ []) 14) 4
-unfolding builtTable
+unfolding builtSteps
 lowest-told = tells-stray (stray 5 (2 ∷ []) 14) lent 4 refl
 
 pub lowest-told-too : StrayTold (stray 5 (0 ∷ []) 14) 4
-unfolding builtTable
+unfolding builtSteps
 lowest-told-too = tells-stray (stray 5 (0 ∷ []) 14) lent 4 refl
 
 -- So they tell one row: the step refused can only be step 1, and its formula is 14.
 first-formula : (k : ℕ) → k < 2 → caseOf (stray 5 (2 ∷ []) 14) .step k .rule ≡ 5 → stepFormula (stray 5 (2 ∷ []) 14) k ≡ 14
-unfolding builtTable
+unfolding builtSteps
 first-formula zero lt r = absurd (omega (arith, let z : _≡_ {A = ℕ} 0 5 = r in z))
 first-formula (suc zero) lt r = refl
 first-formula (suc (suc k)) lt r = absurd (omega arith)
 
 second-formula : (k : ℕ) → k < 2 → caseOf (stray 5 (0 ∷ []) 14) .step k .rule ≡ 5 → stepFormula (stray 5 (0 ∷ []) 14) k ≡ 14
-unfolding builtTable
+unfolding builtSteps
 second-formula zero lt r = absurd (omega (arith, let z : _≡_ {A = ℕ} 0 5 = r in z))
 second-formula (suc zero) lt r = refl
 second-formula (suc (suc k)) lt r = absurd (omega arith)
 
 pub one-row-told : (p q : ℕ) → StrayTold (stray 5 (2 ∷ []) 14) p → StrayTold (stray 5 (0 ∷ []) 14) q → p ≡ q
-unfolding builtTable
+unfolding builtSteps
 one-row-told p q a b =
     place-by-book (stray 5 (2 ∷ []) 14) (stray 5 (0 ∷ []) 14) p q a b refl
     (first-formula (a .step) (a .at .there) (a .owner) ∙ sym (second-formula (b .step) (b .at .there) (b .owner)))
 
 -- A refusal by 28: at the outer of two steps, for a row far above.
 pub refining-told : RefiningTold (nested (line 2 1 0 [])) 9
-unfolding builtTable
+unfolding builtSteps
 refining-told = tells-refining (nested (line 2 1 0 [])) lent 9 refl
 
 -- What a step refines by holds without the log: a case that refines by a tautology passes, and step 4, the first premise of step 5, is an account in the file without log, readings and obligations.
 pub refines-by : RefinesWithoutLog (refining (tautologyAt 2)) 5
-unfolding builtTable
+unfolding builtSteps
 refines-by = holds-without-log (refining (tautologyAt 2)) lent (0, 1, refl) 5 (omega arith) refl
 
 abbrev bare : List ℕ
 bare = reasoned 7 [] [] [] [] (refiningBy (tautologyAt 2))
 
 full-parted : Parted (refining (tautologyAt 2))
-unfolding builtTable
+unfolding builtSteps
 full-parted = admitted-parted (refining (tautologyAt 2)) refl
 
 bare-parted : Parted bare
-unfolding builtTable
+unfolding builtSteps
 bare-parted = admitted-parted bare refl
 
 first-is : refines-by .refines .first ≡ 4
-unfolding builtTable
+unfolding builtSteps
 first-is = let e : 4 ∷ 1 ∷ [] ≡ refines-by .refines .first ∷ refines-by .refines .second ∷ [] = refines-by .refines .premises-are in cc
 
 pub holds-in-bare : AccountOf (caseOf bare) (refines-by .refines .first) (implies (refines-by .refines .from) (refines-by .refines .to)) (refines-by .steps)
-unfolding builtTable
+unfolding builtSteps
 holds-in-bare =
     refines-by .account bare (record { parted = bare-parted; agent = refl; formulas = refl; labels = refl })
     (same-steps (refining (tautologyAt 2)) bare full-parted bare-parted refl refl refl (refines-by .steps) (λ j m. omega (arith, refines-by .above j m, first-is)))
@@ -177,13 +178,13 @@ pub visit-justified : Justified (visit (0 ∷ []))
 unfolding built
 visit-justified = passes-exactly (visit (0 ∷ [])) lent .0 (0, 1, refl) .0
 
-pub one-duty-justified : Justified (twice once (once ∷ 0 ∷ []) 0)
+pub one-duty-justified : Justified (twice once (notDue once 0 ∷ []) 0)
 unfolding built
-one-duty-justified = passes-exactly (twice once (once ∷ 0 ∷ []) 0) lent .0 (1, 1, refl) .0
+one-duty-justified = passes-exactly (twice once (notDue once 0 ∷ []) 0) lent .0 (1, 1, refl) .0
 
 -- Twice with two obligations needs three entries. It passes in a room of just so many, and in one that is an entry short it is refused by 23 with that number.
 abbrev twoDuties : List ℕ
-twoDuties = twice each-use (each-use ∷ 0 ∷ each-use ∷ 0 ∷ []) 1
+twoDuties = twice each-use (notDue each-use 0 ∷ notDue each-use 0 ∷ []) 1
 
 pub two-duties-short : Justified twoDuties × Needs (caseOf twoDuties) 3 × (2 < 3)
 unfolding built
@@ -201,11 +202,11 @@ pub two-duties-lists : Lists twoDuties lent 2 1
 unfolding built
 two-duties-lists = pass-lists twoDuties lent 2 1 refl
 
--- Creator owes nothing: it is admitted, and has no steps.
+-- Creator owes nothing: it is admitted, has no steps, and its duties are kept, for there are none. With one that has expired and was done it stands in DutyInstances.
 abbrev creator : List ℕ
 creator = grantWith 0 0 0 0 [] []
 
-pub creator-owes-nothing : (admission creator ≡ accepts tt) × (caseOf creator .steps ≡ 0) × ((f : Formula) → Owes (caseOf creator .agent) (caseOf creator .action) f → ⊥)
+pub creator-owes-nothing : (admission creator ≡ accepts tt) × OwesNothing (caseOf creator) × DutiesKept (caseOf creator)
 unfolding built
 creator-owes-nothing = none-owed-exactly creator lent .0 refl
 
@@ -283,12 +284,12 @@ alike-through =
     (λ w. ways-made .3 (rw (through-as-built (otherWay 4 0) (other .index) lent (own-index (logOf (otherWay 4 0)))) at w))
 
 -- Demand 3: the header's bytes stay where it is made of bytes, and this one is.
-low-header : all (λ j. ltb (getD (fourRows 0 (absent ∷ [])) j 0) 256) 36 0 ≡ true
+low-header : all (λ j. ltb (getD (fourRows 0 (absent ∷ [])) j 0) 256) 38 0 ≡ true
 unfolding evaluated fourRows
 low-header = refl
 
 header-of-bytes : HeaderOfBytes (fourRows 0 (absent ∷ []))
-header-of-bytes i h = ltb-true _ 256 (all-true (λ j. ltb (getD (fourRows 0 (absent ∷ [])) j 0) 256) 36 0 low-header i (omega arith) (omega arith))
+header-of-bytes i h = ltb-true _ 256 (all-true (λ j. ltb (getD (fourRows 0 (absent ∷ [])) j 0) 256) 38 0 low-header i (omega arith) (omega arith))
 
 pub header-kept : getD (strike (fourRows 0 (absent ∷ []))) 0 0 ≡ 5
 unfolding evaluated fourRows

@@ -1,5 +1,7 @@
--- The three demands, proved of the definition. Each is stated in specs/44-Demands, but that the place of 27 is by the book alone; that, and what requests promise and leave as it was, in specs/46-Requests, of request 5 in specs/47-Indexed. Assumes nothing.
+-- The three demands, proved of the definition. Each is stated in specs/44-Demands, but that the place of 27 is by the book alone; that, and what requests promise and leave as it was, in specs/46-Requests, of request 5 in specs/47-Indexed, of request 6 in specs/49-Duties. Assumes nothing.
 use Rattle.definition.proofs.CitedLists as cited
+use Rattle.definition.proofs.DutyNumbers as numbers
+use Rattle.definition.proofs.DutyPromises as duties
 use Rattle.definition.proofs.IndexHolds as held
 use Rattle.definition.proofs.IndexPromises as indexed
 use Rattle.definition.proofs.OrderedLogs as ordered
@@ -20,6 +22,7 @@ use Rattle.definition.proofs.UnseenRows as unseen
 use Rattle.definition.specs.44-Demands.{RefusalKeepsRoom, NoneOwedKeepsRoom, PassKeepsRest, FirstIsTold, RefusedByTable, StepIsPlace, PassesExactly, RefusedForRoom, NoneOwedExactly, PassLists, EachUseOnce, UnseenRowsAreUnseen, AsIfStruck, StrikesUnseen, OneMeaningOneNumber}
 use Rattle.definition.specs.46-Requests.{NumbersAlone, FitsAsBefore, TellsStray, PlaceByBook, StraysAlone, TellsRefining, RefiningsAlone, HoldsWithoutLog, TellsSizes, SizeIsRows, SizesFit, SizesShowNoRow}
 use Rattle.definition.specs.47-Indexed.{IndexHolds, ListIsSeen, UnseeingHasNone, IndexLength, EntriesFit, BuildingRefused, IndexBuilt, ThroughExactly, ThroughKeepsRoom, LaterNotRead, BuiltIsAsBuilt, BuiltIsEnough, StrikingKeepsIndex, ThroughShowsNoRow}
+use Rattle.definition.specs.49-Duties.{RefusedUndone, RefusedNamedTwice, UnseenIsNotDone, DutiesAlone, KeptAsBefore, NoneDueKept, RefusedForLength, DutiesRead, RefusedBadDuty, RefusedBadAudit, DoneByNumbers, OldIsRefused}
 
 pub record Demand1 : Type 0 where
   pub refusal-keeps-room : RefusalKeepsRoom
@@ -76,6 +79,20 @@ pub record Request5 : Type 0 where
   pub built-is-as-built : BuiltIsAsBuilt
   pub built-is-enough : BuiltIsEnough
   pub striking-keeps-index : StrikingKeepsIndex
+
+pub record Request6 : Type 0 where
+  pub refused-undone : RefusedUndone
+  pub refused-named-twice : RefusedNamedTwice
+  pub unseen-is-not-done : UnseenIsNotDone
+  pub duties-alone : DutiesAlone
+  pub kept-as-before : KeptAsBefore
+  pub none-due-kept : NoneDueKept
+  pub refused-for-length : RefusedForLength
+  pub duties-read : DutiesRead
+  pub refused-bad-duty : RefusedBadDuty
+  pub refused-bad-audit : RefusedBadAudit
+  pub done-by-numbers : DoneByNumbers
+  pub old-is-refused : OldIsRefused
 
 pub demand-1 : Demand1
 demand-1 =
@@ -140,4 +157,21 @@ request-5 =
       built-is-as-built = indexed.built-is-as-built;
       built-is-enough = indexed.built-is-enough;
       striking-keeps-index = indexed.index-struck;
+    }
+
+pub request-6 : Request6
+request-6 =
+    record {
+      refused-undone = duties.refused-undone;
+      refused-named-twice = duties.refused-named-twice;
+      unseen-is-not-done = duties.unseen-is-not-done;
+      duties-alone = duties.duties-alone;
+      kept-as-before = duties.kept-as-before;
+      none-due-kept = duties.none-due-kept;
+      refused-for-length = numbers.refused-for-length;
+      duties-read = numbers.duties-read;
+      refused-bad-duty = numbers.refused-bad-duty;
+      refused-bad-audit = numbers.refused-bad-audit;
+      done-by-numbers = numbers.done-by-numbers;
+      old-is-refused = duties.old-is-refused;
     }

@@ -1,6 +1,6 @@
 -- What the order of all checks comes to: it accepts just if all hold, and refuses just with the first that fails. Assumes nothing.
 use Prim.Native.Nat.{ℕ}
-use mathlib.Core.Path.{_≡_, refl}
+use mathlib.Core.Path.{_≡_, refl, ap}
 use mathlib.Core.Logic.{⊎-elim}
 use mathlib.Core.List.{List}
 use native.Mathlib.Omega.{arith}
@@ -52,9 +52,14 @@ reported-refusal (accepts (justified ds rs)) room n p e = absurd (let z : _≡_ 
 reported-refusal (accepts nothing-owed) room n p e = absurd (let z : _≡_ {A = ℕ} 0 1 = cc in omega arith)
 reported-refusal (refuses m q) room n p e = cc
 
-pub first-is-told : FirstIsTold
+-- A first fault is all of the outcome: the room stays.
+pub fault-outcome : (s room : List ℕ) {n p : ℕ} → FirstFault (allChecks s (length room)) n p → outcome s room ≡ record { verdict = refused n p; room = room }
 unfolding outcome report
+fault-outcome s room f = rw (fault-finding s (length room) f)
+
+pub first-is-told : FirstIsTold
+unfolding outcome
 first-is-told s room n p = (
   λ e. finding-faults s (length room) n p (reported-refusal (finding s (length room)) room n p e),
-  λ f. rw (fault-finding s (length room) f),
+  λ f. ap (λ o. o .verdict) (fault-outcome s room f),
 )

@@ -27,6 +27,7 @@ use Rattle.definition.specs.17-Case.{caseOf}
 use Rattle.definition.specs.18-Admission.{checksToLog, admissionChecks, admission}
 use Rattle.definition.specs.19-Rewriting.{strikeLog, strike}
 use Rattle.definition.specs.22-Steps.{citationChecks, misfitChecks, fitChecks, shapeChecks, aboveChecks, useChecks, stepChecks, stateAt}
+use Rattle.definition.specs.23-Duties.{dutyChecks}
 use Rattle.definition.specs.31-Outcome.{Verdict, refused, Finding, closingChecks, roomChecks, owingChecks, endChecks, caseChecks, allChecks, found, finding, report, outcome}
 use Rattle.definition.specs.35-Index.{rowObservers, observing, rowsSeen, heads, indexOf, indexRoomChecks, buildingChecks, lay, building, notAsBuilt, asBuiltChecks, checksThrough, findingThrough, outcomeThrough}
 use Rattle.definition.specs.44-Demands.{Mended}
@@ -170,9 +171,9 @@ module _ (s : List ℕ) where
   admission-other {p = p} e = other-number (admissionChecks s) refl (first-fault (admissionChecks s) 30 p e)
 
   outcome-other : {A : Type 0} (room : List ℕ) {p : ℕ} → outcome s room .verdict ≡ refused 30 p → A
-  unfolding checksToLog admissionChecks layoutChecks bookChecks logChecks recordChecks owingChecks closingChecks roomChecks endChecks stepChecks shapeChecks citationChecks aboveChecks useChecks fitChecks misfitChecks
+  unfolding checksToLog admissionChecks layoutChecks bookChecks logChecks recordChecks owingChecks closingChecks dutyChecks roomChecks endChecks stepChecks shapeChecks citationChecks aboveChecks useChecks fitChecks misfitChecks
   outcome-other room {p = p} e =
-      let r = step-refused s room 30 p refl refl refl e in
+      let r = step-refused s room 30 p refl refl refl refl e in
       other-number (stepChecks (caseOf s) (r .1) (stateAt (caseOf s) (r .1))) refl (r .2 .fault)
 
 -- The check through an index: the admission, check 30, and the rest.

@@ -35,6 +35,7 @@ pub mod SizeColumns
 pub mod StrayPlaces
 pub mod Sound
 pub mod Complete
+pub mod DutyLaws
 pub mod Findings
 pub mod RefusalTable
 pub mod Passes
@@ -49,5 +50,8 @@ pub mod ReadingLaws
 pub mod UnseenRows
 pub mod PromiseLaws
 pub mod IndexPromises
+pub mod DutyPromises
+pub mod DutyNumbers
 pub mod DemandsProved
 pub mod DemandInstances
+pub mod DutyInstances

@@ -1,6 +1,6 @@
--- What requests 1 to 3 leave as it was: a run of all checks without theirs ends as the run with them, in a relation that each request states. Group by group, by appending; the checks that the requests are about are given. Assumes nothing.
+-- What requests leave as it was. Whatever checks are left out, a run ends as with them, or is refused by one of these. Of requests 1 and 2 more is said: a run of all checks without theirs ends as the run with them, in a relation that each request states. Group by group, by appending; the checks that the requests are about are given. Assumes nothing.
 use Prim.Native.Nat.{ℕ, zero, suc, _+_}
-use mathlib.Core.Path.{_≡_, refl, sym, ap}
+use mathlib.Core.Path.{_≡_, refl, sym, ap, _∙_}
 use mathlib.Core.Bool.{Bool, true, false, cond, _||_}
 use mathlib.Core.Logic.{_⊎_, inl, inr, ⊎-elim}
 use mathlib.Core.Option.{Option, none, some}
@@ -8,10 +8,10 @@ use mathlib.Core.List.{List, [], _∷_, _++_}
 use lib.ListN.{length}
 use lib.Dec.{eqb}
 use borrow.Author.Tests.{eqb-true}
-use Rattle.definition.proofs.CheckLaws.{in-order-append, try-each, hasOne}
+use Rattle.definition.proofs.CheckLaws.{in-order-append, try-each, decided, goes-on, stops, failing-number, hasOne}
 use Rattle.definition.proofs.MisfitLaws.{fit-checks}
 use Rattle.definition.proofs.Tests.{and-true, or-false, not-both, never-false}
-use Rattle.definition.specs.04-Checks.{Checked, accepts, refuses, _>>_, Check, single, each, numberOf, check, try, inOrder, AllHold}
+use Rattle.definition.specs.04-Checks.{Checked, accepts, refuses, _>>_, Check, single, each, numberOf, check, try, inOrder, Holds, Fails, AllHold}
 use Rattle.definition.specs.11-Layout.{layoutChecks}
 use Rattle.definition.specs.13-Formulas.{Formula}
 use Rattle.definition.specs.14-Book.{bookChecks}
@@ -19,17 +19,45 @@ use Rattle.definition.specs.15-Records.{logChecks, recordChecks}
 use Rattle.definition.specs.17-Case.{Case, caseOf}
 use Rattle.definition.specs.18-Admission.{checksToLog, admissionChecks}
 use Rattle.definition.specs.21-Rules.{noInstance, rule, rules, ruleAt}
-use Rattle.definition.specs.22-Steps.{State, restsIn, ruleOf, next, startState, citationChecks, shapeChecks, aboveChecks, useChecks, misfitChecks, fitChecks, stepChecks, checksOfSteps, strayVariable, wrongKind, wrongParty, wrongInstance, misfit, notFresh, noTautology}
-use Rattle.definition.specs.31-Outcome.{Finding, justified, nothing-owed, owes, owingChecks, closingChecks, roomChecks, endChecks, finalState, proofChecks, checksIfOwed, caseChecks, allChecks, found, finding, report, outcome}
+use Rattle.definition.specs.22-Steps.{State, ruleOf, next, startState, citationChecks, shapeChecks, aboveChecks, useChecks, misfitChecks, fitChecks, stepChecks, checksOfSteps, strayVariable, wrongKind, wrongParty, wrongInstance, misfit}
+use Rattle.definition.specs.23-Duties.{dutyChecks}
+use Rattle.definition.specs.31-Outcome.{refused, Finding, justified, nothing-owed, owes, owingChecks, closingChecks, roomChecks, endChecks, finalState, proofChecks, checksIfOwed, caseChecks, allChecks, found, finding, report, outcome}
 use Rattle.definition.specs.46-Requests.{without, isMisfitNumber, numberBefore, findingWithout, outcomeWithout, verdictBefore, asBefore, NumbersAlone, isStrayNumber, StraysAlone, isRefiningNumber, RefiningsAlone}
 
-kept-or-not : (c : Check) (xs ys zs : List Check) (b : Bool) → zs ≡ xs ++ ys → cond b zs (c ∷ zs) ≡ cond b xs (c ∷ xs) ++ ys
-kept-or-not c xs ys zs true e = e
-kept-or-not c xs ys zs false e = ap {B = List Check} (λ l. c ∷ l) e
+-- Whatever numbers are left out, a run ends as with them, or that one refuses by such a number. By the cases of its first check.
+module _ (leftOut : ℕ → Bool) where
+  abbrev SameOrLeftOut : {A : Type 0} → Checked A → Checked A → Type 0
+  SameOrLeftOut a b = (b ≡ a) ⊎ ((n : ℕ) × (p : ℕ) × (leftOut n ≡ true) × (a ≡ refuses n p))
 
--- The checks that the requests are about, by number: of how a step fits, and of what it refines by.
+  one-more :
+      (c : Check) (cs : List Check) (b : Bool) → leftOut (numberOf c) ≡ b → Holds c ⊎ ((n : ℕ) × (p : ℕ) × Fails c n p) →
+      SameOrLeftOut (inOrder cs) (inOrder (without leftOut cs)) → SameOrLeftOut (inOrder (c ∷ cs)) (inOrder (cond b (without leftOut cs) (c ∷ without leftOut cs)))
+  one-more c cs true e (inl h) r = rw (goes-on c cs h) r
+  one-more c cs false e (inl h) r = rw (goes-on c cs h, goes-on c (without leftOut cs) h) r
+  one-more c cs true e (inr (n, p, f)) r = inr (n, p, rw (failing-number c n p f) at e, stops c cs n p f)
+  one-more c cs false e (inr (n, p, f)) r = inl (stops c (without leftOut cs) n p f ∙ sym (stops c cs n p f))
+
+  same-or-left-out : (cs : List Check) → SameOrLeftOut (inOrder cs) (inOrder (without leftOut cs))
+  unfolding without
+  same-or-left-out [] = inl refl
+  same-or-left-out (c ∷ cs) = one-more c cs (leftOut (numberOf c)) refl (decided c) (same-or-left-out cs)
+
+-- So with every outcome, whatever checks are left out.
+pub left-out-alone :
+    (leftOut : ℕ → Bool) (s room : List ℕ) →
+    (outcomeWithout leftOut s room ≡ outcome s room) ⊎ ((n : ℕ) × (p : ℕ) × (leftOut n ≡ true) × (outcome s room ≡ record { verdict = refused n p; room = room }))
+unfolding outcomeWithout findingWithout outcome finding report _>>_
+left-out-alone leftOut s room =
+    ⊎-elim (λ e. inl (rw e)) (λ w. inr (w .0, w .1, w .2, rw (w .3))) (same-or-left-out leftOut (allChecks s (length room)))
+
+-- Request 3: the number left out is 28.
+pub refinings-alone : RefiningsAlone
+unfolding isRefiningNumber
+refinings-alone s room = ⊎-elim (λ e. inl e) (λ w. inr (w .1, rw (eqb-true (w .0) 28 (w .2)) at (w .3))) (left-out-alone isRefiningNumber s room)
+
+-- The checks that requests 1 and 2 are about, by number: of how a step fits.
 isRequested : ℕ → Bool
-isRequested n = eqb n 28 || eqb n 27 || eqb n 24 || eqb n 25 || eqb n 26 || eqb n 18
+isRequested n = eqb n 27 || eqb n 24 || eqb n 25 || eqb n 26 || eqb n 18
 
 -- What a request says of two runs, the first with its checks and the second without: it passes to one run after another, and a check that is not left out ends alike. Only checks that a request is about are.
 record Request : Type 1 where
@@ -39,6 +67,10 @@ record Request : Type 1 where
   over : {A : Type 0} (x : A) → Alike (accepts x) (accepts x)
   requested : (n : ℕ) → isRequested n ≡ false → leftOut n ≡ false
   kept : (n p : ℕ) (b : Bool) → leftOut n ≡ false → Alike (check n p b) (check n p b)
+
+kept-or-not : (c : Check) (xs ys zs : List Check) (b : Bool) → zs ≡ xs ++ ys → cond b zs (c ∷ zs) ≡ cond b xs (c ∷ xs) ++ ys
+kept-or-not c xs ys zs true e = e
+kept-or-not c xs ys zs false e = ap {B = List Check} (λ l. c ∷ l) e
 
 module _ (q : Request) where
   abbrev EndsAlike : List Check → Type 0
@@ -73,20 +105,12 @@ module _ (q : Request) where
   alike-none cs e = alike-kept cs (none-out cs e)
 
   -- The checks of a step that the requests are about end alike.
-  record StepAlike (c : Case) : Type 0 where
-    fits : (k : ℕ) → EndsAlike (fitChecks c k)
-    refines : (k : ℕ) (s : State) → EndsAlike (single 28 k (noTautology c (restsIn s) k) ∷ [])
-
-  module _ (c : Case) (alike : StepAlike c) where
-    alike-above : (k : ℕ) (s : State) → EndsAlike (aboveChecks c k s)
-    unfolding aboveChecks isRequested
-    alike-above k s = alike-both (single 19 k (notFresh c s k) ∷ []) (single 28 k (noTautology c (restsIn s) k) ∷ []) (alike-none (single 19 k (notFresh c s k) ∷ []) refl) (alike .refines k s)
-
+  module _ (c : Case) (fits : (k : ℕ) → EndsAlike (fitChecks c k)) where
     alike-step : (k : ℕ) (s : State) → EndsAlike (stepChecks c k s)
-    unfolding stepChecks shapeChecks citationChecks useChecks isRequested
+    unfolding stepChecks shapeChecks citationChecks useChecks aboveChecks isRequested
     alike-step k s =
         alike-both (shapeChecks c k s) (useChecks c k s) (alike-none (shapeChecks c k s) refl)
-        (alike-both (single 17 k _ ∷ []) _ (alike-none (single 17 k _ ∷ []) refl) (alike-both (fitChecks c k) (aboveChecks c k s) (alike .fits k) (alike-above k s)))
+        (alike-both (single 17 k _ ∷ []) _ (alike-none (single 17 k _ ∷ []) refl) (alike-both (fitChecks c k) (aboveChecks c k s) (fits k) (alike-none (aboveChecks c k s) refl)))
 
     alike-steps : (left k : ℕ) (s : State) → EndsAlike (checksOfSteps c left k s)
     unfolding checksOfSteps
@@ -94,16 +118,16 @@ module _ (q : Request) where
     alike-steps (suc left) k s = alike-both (stepChecks c k s) _ (alike-step k s) (alike-steps left (k + 1) (next c k s))
 
     alike-owed : (o : Option Formula) (room : ℕ) → EndsAlike (checksIfOwed o c room)
-    unfolding checksIfOwed proofChecks endChecks closingChecks roomChecks isRequested
-    alike-owed none room = alike-none [] refl
+    unfolding checksIfOwed proofChecks endChecks closingChecks dutyChecks roomChecks isRequested
+    alike-owed none room = alike-none (dutyChecks c) refl
     alike-owed (some f) room = alike-both (checksOfSteps c (c .steps) 0 startState) _ (alike-steps (c .steps) 0 startState) (alike-none (endChecks c (finalState c) room) refl)
 
-  module _ (s : List ℕ) (alike : StepAlike (caseOf s)) where
+  module _ (s : List ℕ) (fits : (k : ℕ) → EndsAlike (fitChecks (caseOf s) k)) where
     alike-all : (room : ℕ) → EndsAlike (allChecks s room)
     unfolding allChecks caseChecks owingChecks admissionChecks checksToLog layoutChecks bookChecks logChecks recordChecks isRequested
     alike-all room =
         alike-both (admissionChecks s) (caseChecks (caseOf s) room) (alike-none (admissionChecks s) refl)
-        (alike-both (owingChecks (caseOf s)) (checksIfOwed (owes (caseOf s)) (caseOf s) room) (alike-none (owingChecks (caseOf s)) refl) (alike-owed (caseOf s) alike (owes (caseOf s)) room))
+        (alike-both (owingChecks (caseOf s)) (checksIfOwed (owes (caseOf s)) (caseOf s) room) (alike-none (owingChecks (caseOf s)) refl) (alike-owed (caseOf s) fits (owes (caseOf s)) room))
 
     alike-finding : (room : ℕ) → q .Alike (finding s room) (findingWithout (q .leftOut) s room)
     unfolding finding findingWithout
@@ -121,7 +145,6 @@ then-before (refuses n p) b = refl
 
 -- No number that a request is about.
 record NotRequested (n : ℕ) : Type 0 where
-  not-28 : eqb n 28 ≡ false
   not-27 : eqb n 27 ≡ false
   not-24 : eqb n 24 ≡ false
   not-25 : eqb n 25 ≡ false
@@ -133,9 +156,8 @@ not-requested n e =
     let a = or-false _ (eqb n 18) e in
     let b = or-false _ (eqb n 26) (a .0) in
     let c = or-false _ (eqb n 25) (b .0) in
-    let d = or-false _ (eqb n 24) (c .0) in
-    let f = or-false (eqb n 28) (eqb n 27) (d .0) in
-    record { not-28 = f .0; not-27 = f .1; not-24 = d .1; not-25 = c .1; not-26 = b .1 }
+    let d = or-false (eqb n 27) (eqb n 24) (c .0) in
+    record { not-27 = d .0; not-24 = d .1; not-25 = c .1; not-26 = b .1 }
 
 requested-misfit : (n : ℕ) → isRequested n ≡ false → isMisfitNumber n ≡ false
 unfolding isMisfitNumber
@@ -175,10 +197,6 @@ alike-fit c k =
     alike-both request-1 (single 27 (c .step k .stray) (strayVariable c k) ∷ []) (misfitChecks c k) (alike-kept request-1 (single 27 _ _ ∷ []) refl)
     (fit-alike k (wrongKind c k) (wrongParty c k) (wrongInstance c k) (misfit c k) (λ e. let w = fit-checks c k .1 e .1 in (w .0, (w .1 .0, (w .1 .1 .0, tt)))))
 
-alike-1 : (c : Case) → StepAlike request-1 c
-unfolding request-1 isMisfitNumber
-alike-1 c = record { fits = alike-fit c; refines = λ k s. alike-kept request-1 (single 28 k _ ∷ []) refl }
-
 reported : (x : Checked Finding) (room : List ℕ) → report (before x) room ≡ asBefore (report x room)
 unfolding before report verdictBefore asBefore
 reported (accepts (justified ds rs)) room = refl
@@ -187,7 +205,7 @@ reported (refuses n p) room = refl
 
 pub numbers-alone : NumbersAlone
 unfolding request-1 outcomeWithout outcome
-numbers-alone s room = rw (alike-finding request-1 s (alike-1 (caseOf s)) (length room)) (reported (finding s (length room)) room)
+numbers-alone s room = rw (alike-finding request-1 s (alike-fit (caseOf s)) (length room)) (reported (finding s (length room)) room)
 
 -- Request 2: both runs end alike, or 27 refuses, and without it another check of how the owner step fits does.
 record WasFit (c : Case) {A : Type 0} (a b : Checked A) : Type 0 where
@@ -249,48 +267,9 @@ module _ (c : Case) where
         let w = some-misfit (wrongKind c k) (wrongParty c k) in
         rw (EndsAlike, e, stray-misfits e, owner-instance (stray-owner e)) (inr (record { row = c .step k .stray; number = w .0; step = k; with = refl; without = w .1; misfits = w .2; owner = stray-owner e; told = refl }))
 
-  alike-2 : StepAlike request-2 c
-  unfolding request-2 isStrayNumber
-  alike-2 = record { fits = λ k. stray-fit k (strayVariable c k) refl; refines = λ k s. alike-kept request-2 (single 28 k _ ∷ []) refl }
-
 pub strays-alone : StraysAlone
 unfolding request-2 outcomeWithout outcome report
 strays-alone s room =
     ⊎-elim (λ e. inl (rw e))
     (λ w. inr (record { row = w .row; number = w .number; step = w .step; with = rw (w .with); without = rw (w .without); misfits = w .misfits; owner = w .owner; told = w .told }))
-    (alike-finding (request-2 (caseOf s)) s (alike-2 (caseOf s)) (length room))
-
--- Request 3: both runs end alike, or 28 refuses.
-abbrev SameOrRefused : {A : Type 0} → Checked A → Checked A → Type 0
-SameOrRefused a b = (b ≡ a) ⊎ ((k : ℕ) × (a ≡ refuses 28 k))
-
-then-refused : {A B : Type 0} (a b : Checked A) (x y : Checked B) → SameOrRefused a b → SameOrRefused x y → SameOrRefused (_>>_ a x) (_>>_ b y)
-unfolding _>>_
-then-refused (accepts v) b x y (inl e) h = rw e h
-then-refused (refuses n p) b x y (inl e) h = inl (rw e)
-then-refused a b x y (inr w) h = inr (w .0, rw (w .1))
-
-request-3 : Request
-unfolding isRefiningNumber
-request-3 =
-    record {
-      leftOut = isRefiningNumber;
-      Alike = λ a b. SameOrRefused a b;
-      then = λ {A} {B} {a} {b} {x} {y} h k. then-refused a b x y h k;
-      over = λ x. inl refl;
-      requested = λ n e. not-requested n e .not-28;
-      kept = λ n p b e. inl refl;
-    }
-
-refining : (k : ℕ) (b : Bool) → EndsAlike request-3 (single 28 k b ∷ [])
-unfolding request-3 isRefiningNumber without inOrder _>>_ try check
-refining k false = inl refl
-refining k true = inr (k, refl)
-
-alike-3 : (c : Case) → StepAlike request-3 c
-unfolding request-3 isRefiningNumber fitChecks misfitChecks
-alike-3 c = record { fits = λ k. alike-kept request-3 (fitChecks c k) refl; refines = λ k s. refining k (noTautology c (restsIn s) k) }
-
-pub refinings-alone : RefiningsAlone
-unfolding request-3 outcomeWithout outcome report
-refinings-alone s room = ⊎-elim (λ e. inl (rw e)) (λ w. inr (w .0, rw (w .1))) (alike-finding request-3 s (alike-3 (caseOf s)) (length room))
+    (alike-finding (request-2 (caseOf s)) s (λ k. stray-fit (caseOf s) k (strayVariable (caseOf s) k) refl) (length room))

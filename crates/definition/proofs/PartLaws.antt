@@ -9,7 +9,8 @@ use lib.Dec.{eqb, ltb}
 use borrow.Author.Tests.{not-false, eqb-true, ltb-false}
 use Rattle.definition.proofs.Tests.{or-false}
 use Rattle.definition.proofs.Windows.{window-length}
-use Rattle.definition.specs.11-Layout.{headerBytes, mostBytes, recordBytes, mostRecords, premise-part, observer-part, log-part, step-part, offset, size, end, count, part, recordsIn, dueOffset, badLength, orphans, isMisplaced, faultyPart}
+use Rattle.definition.specs.11-Layout.{headerBytes, mostBytes, recordBytes, mostRecords, formula-part, premise-part, observer-part, log-part, step-part, offset, size, end, count, part, recordsIn, dueOffset, badLength, orphans, isMisplaced, faultyPart}
+use Rattle.definition.specs.14-Book.{bookRows}
 use Rattle.definition.specs.15-Records.{logOf, rowsIn}
 use Rattle.definition.specs.18-Admission.{Parted}
 
@@ -83,6 +84,11 @@ module _ (s : List ℕ) (g : Parted s) where
   pub log-rows : rowsIn (logOf s) ≡ count s log-part
   unfolding rowsIn logOf
   log-rows = held-count log-part (omega arith)
+
+  -- The book has no more rows than it may.
+  pub book-few : bookRows (part s formula-part) ≤ 1024
+  unfolding bookRows recordsIn mostRecords recordBytes
+  book-few = omega (arith, held-count formula-part (omega arith), part-few formula-part (omega arith))
 
 -- Equal parts hold equally many records.
 pub same-count : (s t : List ℕ) → Parted s → Parted t → (p : ℕ) → p < 8 → part s p ≡ part t p → count s p ≡ count t p

@@ -3,12 +3,14 @@
 use Prim.Native.Nat.{ℕ, _+_, _-_, _≤_, _<_}
 use mathlib.Core.Path.{_≡_, refl, sym, ap, _∙_}
 use mathlib.Core.Logic.{⊎-elim}
+use mathlib.Core.Option.{some}
 use mathlib.Core.List.{List}
 use native.Mathlib.Omega.{arith}
 use lib.ListN.{length}
 use Rattle.definition.proofs.AdmissionLaws.{admitted-parted}
 use Rattle.definition.proofs.Complete.{Grown, grown, tests-at}
 use Rattle.definition.proofs.ConclusionLaws as conclusions
+use Rattle.definition.proofs.DutyLaws.{holding-kept, kept-holding}
 use Rattle.definition.proofs.PartLaws.{part-few, log-rows}
 use Rattle.definition.proofs.Findings.{reported-pass}
 use Rattle.definition.proofs.Passes.{Proves, Proved, entries, finding-proved, proved-passes, proved-short, short-proved}
@@ -30,7 +32,7 @@ use Rattle.definition.specs.18-Admission.{admission}
 use Rattle.definition.specs.22-Steps.{Labels, restsIn, opensIn, startState, next, premisesOf, isAnObligation, stateAt}
 use Rattle.definition.specs.31-Outcome.{owes, lastStep, dischargedList, citedList, finalState, finding, report, outcome}
 use Rattle.definition.specs.42-Account.{Account}
-use Rattle.definition.specs.44-Demands.{StepsHold, Justified, PassesExactly, RefusedForRoom}
+use Rattle.definition.specs.44-Demands.{StepsHold, Accounted, Justified, PassesExactly, RefusedForRoom}
 
 last-step : (c : Case) → 0 < c .steps → lastStep c + 1 ≡ c .steps
 unfolding lastStep
@@ -134,20 +136,24 @@ case-small s e =
       labels = omega (arith, part-few s f label-part (omega arith));
     }
 
+-- Something is owed and accounted for exactly if the steps prove it, without fault.
+module _ (c : Case) where
+  pub proves-accounted : {f : Formula} → owes c ≡ some f → Proves c f → Accounted c
+  unfolding owes
+  proves-accounted {f} owed p = (f, conclusions.drawn _ _ _ .1 owed, proves-account c f p)
+
+  pub accounted-proves : Small c → Accounted c → (f : Formula) × (owes c ≡ some f) × Proves c f
+  unfolding owes
+  accounted-proves small a = (a .0, conclusions.owing (a .1), account-proves c (a .0) small (a .2))
+
 -- A file is justified exactly if something is owed and no check but 23 refuses it.
 proved-justified : (s : List ℕ) → Proved s → Justified s
-unfolding owes
-proved-justified s p = (p .admitted, p .owed-is, conclusions.drawn _ _ _ .1 (p .owed), proves-account (caseOf s) (p .owed-is) (p .proves))
+proved-justified s p = (p .admitted, proves-accounted (caseOf s) (p .owed) (p .proves), holding-kept (caseOf s) (p .duties))
 
 justified-proved : (s : List ℕ) → Justified s → Proved s
-unfolding owes
 justified-proved s j =
-    record {
-      admitted = j .0;
-      owed-is = j .1;
-      owed = conclusions.owing (j .2);
-      proves = account-proves (caseOf s) (j .1) (case-small s (j .0)) (j .3);
-    }
+    let w = accounted-proves (caseOf s) (case-small s (j .0)) (j .1) in
+    record { admitted = j .0; owed-is = w .0; owed = w .1; proves = w .2; duties = kept-holding (caseOf s) (j .2) }
 
 pub passes-exactly : PassesExactly
 unfolding outcome report

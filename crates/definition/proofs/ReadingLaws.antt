@@ -13,10 +13,10 @@ use Rattle.definition.specs.03-Lists.{joinAll}
 use Rattle.definition.specs.04-Checks.{single, Fails, here}
 use Rattle.definition.specs.11-Layout.{headerBytes, mostBytes, badLength, layoutChecks}
 use Rattle.definition.specs.18-Admission.{checksToLog, admissionChecks}
-use Rattle.definition.specs.31-Outcome.{refused, allChecks, report, outcome}
+use Rattle.definition.specs.31-Outcome.{refused, allChecks, outcome}
 use Rattle.definition.specs.34-Program.{Answer, gives, error, Reading, so-far, whole, failed, filled, readOn, readAll, NoneEmpty, CutsDoNotShow, ErrorsShow, NothingHalfRead, mostRead, UnreadDoesNotShow}
 use Rattle.definition.proofs.Tests.{or-intro-right}
-use Rattle.definition.proofs.Findings.{fault-finding}
+use Rattle.definition.proofs.Findings.{fault-outcome}
 
 stays-whole : (most : ℕ) (bytes : List ℕ) (answers : List Answer) → readAll most (whole bytes) answers ≡ whole bytes
 unfolding readAll readOn
@@ -154,12 +154,16 @@ all-given most bytes h (gives (b ∷ bs) ∷ answers) s e =
 pub nothing-half-read : NothingHalfRead
 nothing-half-read most answers bytes e = all-given most [] (omega arith) answers bytes e
 
--- A file that is too long is refused by check 1.
+-- A file whose length is at fault is refused by check 1; so one that is too long.
+pub length-refused : (s room : List ℕ) → badLength s ≡ true → outcome s room ≡ record { verdict = refused 1 0; room = room }
+unfolding allChecks admissionChecks checksToLog layoutChecks
+length-refused s room e =
+    let fails : Fails (single 1 0 (badLength s)) 1 0 = (refl, refl, e) in
+    fault-outcome s room (here fails)
+
 too-long : (s room : List ℕ) → mostBytes < length s → outcome s room ≡ record { verdict = refused 1 0; room = room }
-unfolding outcome report allChecks admissionChecks checksToLog layoutChecks badLength
-too-long s room h =
-    let fails : Fails (single 1 0 (badLength s)) 1 0 = (refl, refl, or-intro-right (ltb (length s) headerBytes) (lt-ltb mostBytes (length s) h)) in
-    rw (fault-finding s (length room) (here fails))
+unfolding badLength
+too-long s room h = length-refused s room (or-intro-right (ltb (length s) headerBytes) (lt-ltb mostBytes (length s) h))
 
 pub unread-does-not-show : UnreadDoesNotShow
 unread-does-not-show s room = go (ltb mostBytes (length s)) refl

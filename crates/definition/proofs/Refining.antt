@@ -43,6 +43,7 @@ module _ (c d : Case) where
       record {
         agent = c .agent;
         action = d .action;
+        hour = d .hour;
         rows = d .rows;
         row = d .row;
         conditions = d .conditions;
@@ -151,6 +152,7 @@ there-is s t parted b =
     record {
       agent = b .agent i;
       action = d .action;
+      hour = d .hour;
       rows = d .rows;
       row = d .row;
       conditions = d .conditions;

@@ -25,6 +25,7 @@ use Rattle.definition.specs.15-Records.{logChecks, recordChecks}
 use Rattle.definition.specs.17-Case.{Case, caseOf}
 use Rattle.definition.specs.18-Admission.{checksToLog, admissionChecks, admission}
 use Rattle.definition.specs.22-Steps.{State, restsIn, usedIn, premisesOf, badPremises, firstRests, noTautology, citationChecks, misfitChecks, fitChecks, shapeChecks, aboveChecks, useChecks, stepChecks, stateAt}
+use Rattle.definition.specs.23-Duties.{dutyChecks}
 use Rattle.definition.specs.31-Outcome.{closingChecks, roomChecks, owingChecks, endChecks}
 use Rattle.definition.specs.46-Requests.{RefusedAt, RefiningTold, TellsRefining}
 
@@ -80,9 +81,9 @@ module _ (s : List ℕ) (small : Small (caseOf s)) (k : ℕ) (at : RefusedAt s k
           }
 
 pub tells-refining : TellsRefining
-unfolding checksToLog admissionChecks layoutChecks bookChecks logChecks recordChecks owingChecks closingChecks roomChecks endChecks admission
+unfolding checksToLog admissionChecks layoutChecks bookChecks logChecks recordChecks owingChecks closingChecks dutyChecks roomChecks endChecks admission
 tells-refining s room k e =
-    let r = step-refused s room 28 k refl refl refl e in
+    let r = step-refused s room 28 k refl refl refl refl e in
     let j = r .1 in
     let f = refining-fault (caseOf s) j k (stateAt (caseOf s) j) (r .2 .fault) in
     refining-told s (case-small s (hold-all (admissionChecks s) (r .0))) k (subst (λ (i : ℕ). RefusedAt s i 28 k) (f .place) (r .2))

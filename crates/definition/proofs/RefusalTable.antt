@@ -20,8 +20,9 @@ use Rattle.definition.specs.13-Formulas.{Formula}
 use Rattle.definition.specs.17-Case.{Case, caseOf}
 use Rattle.definition.specs.18-Admission.{admissionChecks}
 use Rattle.definition.specs.22-Steps.{startState, next, citationChecks, misfitChecks, fitChecks, shapeChecks, aboveChecks, useChecks, stepChecks, checksOfSteps, stateAt}
+use Rattle.definition.specs.23-Duties.{dutyChecks}
 use Rattle.definition.specs.31-Outcome.{owes, isOwed, hasSteps, noProof, needlessProof, owingChecks, endChecks, finalState, proofChecks, checksIfOwed, caseChecks, allChecks, refused, outcome}
-use Rattle.definition.specs.44-Demands.{InTable, in-admission, in-owing, in-step, in-end, RefusedByTable, StepIsPlace}
+use Rattle.definition.specs.44-Demands.{InTable, in-admission, in-owing, in-step, in-end, in-duties, RefusedByTable, StepIsPlace}
 use Rattle.definition.specs.46-Requests.{RefusedAt}
 
 -- The first fault of the steps from i on, of which `left` are left, is at one of them, and the steps before it are without fault.
@@ -75,6 +76,17 @@ owed-of-steps c h lt = go (owes c) refl
     go none e = let l = ltb-false 0 (c .steps) (rw e at (by-number 11 (owingChecks c) h .0)) in absurd (omega (arith, l))
     go (some f) e = (f, e)
 
+pub no-steps : (c : Case) → owes c ≡ none → AllHold (owingChecks c) → c .steps ≡ 0
+unfolding owingChecks needlessProof isOwed hasSteps
+no-steps c e h = let l = ltb-false 0 (c .steps) (rw e at (by-number 11 (owingChecks c) h .0)) in omega (arith, l)
+
+pub none-owed-of : (c : Case) → AllHold (owingChecks c) → c .steps ≡ 0 → owes c ≡ none
+none-owed-of c h e = go (owes c) refl
+  where
+    go : (o : Option Formula) → owes c ≡ o → owes c ≡ none
+    go none n = n
+    go (some f) n = absurd (omega (arith, steps-of-owed c h n))
+
 module _ (s : List ℕ) (room n p : ℕ) where
   abbrev c : Case
   c = caseOf s
@@ -89,7 +101,7 @@ module _ (s : List ℕ) (room n p : ℕ) where
 
   in-owed : (o : Option Formula) → owes c ≡ o → AllHold (admissionChecks s) → AllHold (owingChecks c) → FirstFault (checksIfOwed o c room) n p → InTable s room n p
   unfolding checksIfOwed
-  in-owed none e a h f = other-number [] refl f
+  in-owed none e a h f = in-duties a h (no-steps c e h) f
   in-owed (some q) e a h f = in-proof (steps-of-owed c h e) a h f
 
   in-case : AllHold (admissionChecks s) → FirstFault (caseChecks c room) n p → InTable s room n p
@@ -105,7 +117,7 @@ module _ (s : List ℕ) (room n p : ℕ) where
   of-proof a o lt f = fault-behind (admissionChecks s) a (fault-behind (owingChecks c) o (rw (owed-of-steps c o lt .1) f))
 
   table-fault : InTable s room n p → FirstFault (allChecks s room) n p
-  unfolding allChecks caseChecks proofChecks stateAt
+  unfolding allChecks caseChecks checksIfOwed proofChecks stateAt
   table-fault (in-admission f) = fault-before (caseChecks c room) f
   table-fault (in-owing a f) = fault-behind (admissionChecks s) a (fault-before (checksIfOwed (owes c) c room) f)
   table-fault (in-step {k = k} a o lt before f) =
@@ -113,6 +125,7 @@ module _ (s : List ℕ) (room n p : ℕ) where
       (fault-before (endChecks c (finalState c) room) (fault-steps c (c .steps) 0 k (omega arith) (omega arith) (λ j from to. before j to) f))
   table-fault (in-end a o lt all f) =
       of-proof a o lt (fault-behind (checksOfSteps c (c .steps) 0 startState) (fine-steps c (c .steps) 0 (λ k from to. all k (omega arith))) f)
+  table-fault (in-duties a o e f) = fault-behind (admissionChecks s) a (fault-behind (owingChecks c) o (rw (none-owed-of c o e) f))
 
 pub refused-by-table : RefusedByTable
 refused-by-table s room n p = (
@@ -123,15 +136,16 @@ refused-by-table s room n p = (
 -- A number that only steps have is refused at a step, in a file that is admitted.
 pub step-refused :
     (s room : List ℕ) (n p : ℕ) → hasNumber n (admissionChecks s) ≡ false → hasNumber n (owingChecks (caseOf s)) ≡ false →
-    hasNumber n (endChecks (caseOf s) (finalState (caseOf s)) (length room)) ≡ false → outcome s room .verdict ≡ refused n p →
+    hasNumber n (endChecks (caseOf s) (finalState (caseOf s)) (length room)) ≡ false → hasNumber n (dutyChecks (caseOf s)) ≡ false → outcome s room .verdict ≡ refused n p →
     AllHold (admissionChecks s) × (k : ℕ) × RefusedAt s k n p
-step-refused s room n p a o e is = go (refused-by-table s room n p .0 is)
+step-refused s room n p a o e d is = go (refused-by-table s room n p .0 is)
   where
     go : InTable s (length room) n p → AllHold (admissionChecks s) × (k : ℕ) × RefusedAt s k n p
     go (in-admission f) = other-number (admissionChecks s) a f
     go (in-owing h f) = other-number (owingChecks (caseOf s)) o f
     go (in-step {k = k} h g lt before f) = (h, k, record { there = lt; before = before; fault = f })
     go (in-end h g lt all f) = other-number (endChecks (caseOf s) (finalState (caseOf s)) (length room)) e f
+    go (in-duties h g lt f) = other-number (dutyChecks (caseOf s)) d f
 
 -- Each check of the list has the place k, but for 27, which has r.
 abbrev PlaceOf : (stray : Bool) → (k r p : ℕ) → Type 0

@@ -5,8 +5,8 @@ use mathlib.Core.Path.{_≡_, refl, sym, ap, subst, _∙_}
 use mathlib.Core.Bool.{Bool, true, false, cond, _&&_, and-false}
 use mathlib.Core.List.{List, [], _∷_, _++_}
 use native.Mathlib.Omega.{arith}
-use lib.ListN.{length, getD, take, drop, length-append, length-drop, take-append-drop}
-use lib.Seq.{take-append-seam, drop-append-add, drop-length, drop-drop, getD-drop, ext-getD}
+use lib.ListN.{length, getD, take, drop, length-append, length-drop, take-append-drop, List·getD-append}
+use lib.Seq.{take-append-seam, drop-append-add, drop-length, drop-drop, getD-drop, getD-at, ext-getD}
 use lib.Dec.{eqb, ltb}
 use borrow.Author.Tests.{eq-eqb, ne-eqb, eqb-true, le-ltb, ltb-true, ltb-false}
 use Rattle.definition.proofs.RangeLaws.{listed-length, listed-at}
@@ -92,6 +92,12 @@ joined-part [] p h = absurd (omega arith)
 joined-part (x ∷ xs) zero h = take-append-seam x (joinAll xs)
 joined-part (x ∷ xs) (suc p) h = rw (drop-append-add x (joinAll xs) (before xs p)) (joined-part xs p (omega arith))
 
+-- The numbers of the header that are no offset and no length: a file put together has them from what it is made of.
+pub data Unpaired : ℕ → Type 0 where
+  agent-number : Unpaired 0
+  action-number : Unpaired 1
+  hour-number : Unpaired 18
+
 -- The parts are whole and few, which is what checks 1 and 2 ask of a file put together.
 pub record Sized (c : Contents) : Type 0 where
   pub whole : (p : ℕ) → p < 8 → length (c .parts p) % recordBytes p ≡ 0
@@ -105,10 +111,13 @@ module _ (c : Contents) where
   all = listed (c .parts) 8 0
 
   abbrev numbers : List ℕ
-  numbers = c .numbers 0 ∷ c .numbers 1 ∷ pairs headerBytes all
+  numbers = c .numbers 0 ∷ c .numbers 1 ∷ pairs headerBytes all ++ c .numbers 18 ∷ []
 
-  numbers-length : length numbers ≡ 18
-  numbers-length = let e = pairs-length headerBytes all in let n = listed-length (c .parts) 8 0 in omega arith
+  eight-pairs : length (pairs headerBytes all) ≡ 16
+  eight-pairs = let e = pairs-length headerBytes all in let n = listed-length (c .parts) 8 0 in omega arith
+
+  numbers-length : length numbers ≡ 19
+  numbers-length = let e = length-append (pairs headerBytes all) (c .numbers 18 ∷ []) in let n = eight-pairs in omega arith
 
   pub header-length : length (words numbers) ≡ headerBytes
   header-length = let e = words-length numbers in let n = numbers-length in omega arith
@@ -116,29 +125,33 @@ module _ (c : Contents) where
   of-part : (p : ℕ) → p < 8 → getD all p [] ≡ c .parts p
   of-part p h = listed-at (c .parts) [] 8 0 p h ∙ ap (c .parts) (let e : 0 + p ≡ p = omega arith in e)
 
-  number : (i : ℕ) → i < 18 → word (written c) (2 * i) ≡ getD numbers i 0
+  number : (i : ℕ) → i < 19 → word (written c) (2 * i) ≡ getD numbers i 0
   unfolding written laidOut
   number i h = word-back numbers (joinAll all) i (let n = numbers-length in omega arith)
 
-  pub written-number : (i : ℕ) → i < 2 → headerNumber (written c) i ≡ c .numbers i
+  -- Behind agent and action come the pairs' numbers, and behind those the hour.
+  paired-number : (j : ℕ) → j < 16 → word (written c) (2 * suc (suc j)) ≡ getD (pairs headerBytes all) j 0
+  paired-number j h = number (suc (suc j)) (omega arith) ∙ List·getD-append (pairs headerBytes all) (c .numbers 18 ∷ []) 0 j (let n = eight-pairs in omega arith)
+
+  pub written-number : {i : ℕ} → Unpaired i → headerNumber (written c) i ≡ c .numbers i
   unfolding headerNumber
-  written-number zero h = number 0 (omega arith)
-  written-number (suc zero) h = number 1 (omega arith)
-  written-number (suc (suc i)) h = absurd (omega arith)
+  written-number agent-number = number 0 (omega arith)
+  written-number action-number = number 1 (omega arith)
+  written-number hour-number = number 18 (omega arith) ∙ getD-at (pairs headerBytes all) (c .numbers 18) [] 0 16 eight-pairs
 
   written-offset : (p : ℕ) → p < 8 → offset (written c) p ≡ headerBytes + before all p
   unfolding offset
   written-offset p h =
       let at : 4 * p + 4 ≡ 2 * suc (suc (2 * p)) = omega arith in
       let n = listed-length (c .parts) 8 0 in
-      rw at (number (suc (suc (2 * p))) (omega arith) ∙ pair-offset headerBytes all p (omega arith))
+      rw at (paired-number (2 * p) (omega arith) ∙ pair-offset headerBytes all p (omega arith))
 
   written-size : (p : ℕ) → p < 8 → size (written c) p ≡ length (c .parts p)
   unfolding size
   written-size p h =
       let at : 4 * p + 6 ≡ 2 * suc (suc (2 * p + 1)) = omega arith in
       let n = listed-length (c .parts) 8 0 in
-      rw at (number (suc (suc (2 * p + 1))) (omega arith) ∙ pair-size headerBytes all p (omega arith) ∙ ap length (of-part p h))
+      rw at (paired-number (2 * p + 1) (omega arith) ∙ pair-size headerBytes all p (omega arith) ∙ ap length (of-part p h))
 
   behind-header : (n : ℕ) → drop (headerBytes + n) (words numbers ++ joinAll all) ≡ drop n (joinAll all)
   behind-header n = ap (λ h. drop (h + n) (words numbers ++ joinAll all)) (sym header-length) ∙ drop-append-add (words numbers) (joinAll all) n
@@ -256,18 +269,30 @@ module _ (s : List ℕ) (f : Parted s) where
       let own = rw (ne-eqb (suc p) 0 (omega arith), back) at (part-due s f (suc p) h) in
       sym there ∙ rw (same-offset p (omega arith), same-size p (omega arith)) (sym own)
 
-  -- every number of the header is the same
-  same-number : (i : ℕ) → i < 18 → word again (2 * i) ≡ word s (2 * i)
-  unfolding headerNumber offset size contentsOf
-  same-number zero h = written-number (contentsOf s) 0 (omega arith)
-  same-number (suc zero) h = written-number (contentsOf s) 1 (omega arith)
-  same-number (suc (suc i)) h =
-      go (i % 2) refl
+  -- every number of the header is the same: the three, those of the pairs, and so all
+  same-unpaired : {i : ℕ} → Unpaired i → word again (2 * i) ≡ word s (2 * i)
+  unfolding headerNumber contentsOf
+  same-unpaired u = written-number (contentsOf s) u
+
+  same-paired : (j : ℕ) → j < 16 → word again (2 * suc (suc j)) ≡ word s (2 * suc (suc j))
+  unfolding offset size
+  same-paired j h =
+      go (j % 2) refl
     where
-      go : (r : ℕ) → i % 2 ≡ r → word again (2 * suc (suc i)) ≡ word s (2 * suc (suc i))
-      go zero e = let at : 2 * suc (suc i) ≡ 4 * (i / 2) + 4 = omega arith in rw at (same-offset (i / 2) (omega arith))
-      go (suc zero) e = let at : 2 * suc (suc i) ≡ 4 * (i / 2) + 6 = omega arith in rw at (same-size (i / 2) (omega arith))
+      go : (r : ℕ) → j % 2 ≡ r → word again (2 * suc (suc j)) ≡ word s (2 * suc (suc j))
+      go zero e = let at : 2 * suc (suc j) ≡ 4 * (j / 2) + 4 = omega arith in rw at (same-offset (j / 2) (omega arith))
+      go (suc zero) e = let at : 2 * suc (suc j) ≡ 4 * (j / 2) + 6 = omega arith in rw at (same-size (j / 2) (omega arith))
       go (suc (suc r)) e = absurd (omega arith)
+
+  same-number : (i : ℕ) → i < 19 → word again (2 * i) ≡ word s (2 * i)
+  same-number zero h = same-unpaired agent-number
+  same-number (suc zero) h = same-unpaired action-number
+  same-number (suc (suc j)) h =
+      go (ltb j 16) refl
+    where
+      go : (b : Bool) → ltb j 16 ≡ b → word again (2 * suc (suc j)) ≡ word s (2 * suc (suc j))
+      go true e = same-paired j (ltb-true j 16 e)
+      go false e = let past = ltb-false j 16 e in let at : j ≡ 16 = omega arith in rw at (same-unpaired hour-number)
 
   pub again-length : length again ≡ length s
   unfolding dueOffset contentsOf
@@ -287,7 +312,7 @@ module _ (s : List ℕ) (f : Parted s) where
     unfolding word written laidOut
     same-byte i = go (ltb i headerBytes) refl
       where
-        low : (j : ℕ) → j < 18 → (getD again (2 * j) 0 ≡ getD s (2 * j) 0) × (getD again (2 * j + 1) 0 ≡ getD s (2 * j + 1) 0)
+        low : (j : ℕ) → j < 19 → (getD again (2 * j) 0 ≡ getD s (2 * j) 0) × (getD again (2 * j + 1) 0 ≡ getD s (2 * j + 1) 0)
         low j k =
             let same = same-number j k in
             let a = low-byte (numbers (contentsOf s)) (joinAll (all (contentsOf s))) j (let n = numbers-length (contentsOf s) in omega arith) in
@@ -308,9 +333,9 @@ module _ (s : List ℕ) (f : Parted s) where
 
 -- What stays in the file with a part in place of its own, and that part.
 module _ (s : List ℕ) (p : ℕ) (b : List ℕ) where
-  pub with-part-number : (i : ℕ) → i < 2 → headerNumber (withPart s p b) i ≡ headerNumber s i
+  pub with-part-number : {i : ℕ} → Unpaired i → headerNumber (withPart s p b) i ≡ headerNumber s i
   unfolding withPart
-  with-part-number i h = written-number _ i h
+  with-part-number u = written-number _ u
 
   pub with-part-own : p < 8 → part (withPart s p b) p ≡ b
   unfolding withPart update
@@ -354,19 +379,19 @@ module _ (s : List ℕ) (p : ℕ) (b : List ℕ) where
           go true e = same ∙ ap (λ r. length (part s r)) (sym (eqb-true q p e))
           go false e = refl
 
--- In the file with another number in the header all parts stay, and the other number; and checks 1 and 2 let it pass if they let the file pass.
+-- In the file with another number in the header all parts stay, and the other numbers; and checks 1 and 2 let it pass if they let the file pass.
 module _ (s : List ℕ) (i n : ℕ) where
   pub with-number-part : (p : ℕ) → p < 8 → part (withNumber s i n) p ≡ part s p
   unfolding withNumber
   with-number-part p h = written-part _ p h
 
-  pub with-number-own : i < 2 → headerNumber (withNumber s i n) i ≡ n
+  pub with-number-own : Unpaired i → headerNumber (withNumber s i n) i ≡ n
   unfolding withNumber update
-  with-number-own h = written-number _ i h ∙ rw (eq-eqb i i refl)
+  with-number-own u = written-number _ u ∙ rw (eq-eqb i i refl)
 
-  pub with-number-other : (j : ℕ) → j < 2 → (j ≡ i → ⊥) → headerNumber (withNumber s i n) j ≡ headerNumber s j
+  pub with-number-other : {j : ℕ} → Unpaired j → (j ≡ i → ⊥) → headerNumber (withNumber s i n) j ≡ headerNumber s j
   unfolding withNumber update
-  with-number-other j h o = written-number _ j h ∙ rw (ne-eqb j i o)
+  with-number-other {j} u o = written-number _ u ∙ rw (ne-eqb j i o)
 
   pub with-number-parted : Parted s → Parted (withNumber s i n)
   unfolding withNumber contentsOf

@@ -11,13 +11,13 @@ use lib.Dec.{ltb}
 use borrow.Author.Tests.{ltb-true, ltb-false, lt-ltb, le-ltb, not-true}
 use Rattle.definition.proofs.PartLaws.{part-whole, part-length, part-due}
 use Rattle.definition.proofs.RangeLaws.{any-none, any-false}
-use Rattle.definition.proofs.Rewriting.{header-length, again-length, behind-same, same-byte, with-part-number, with-part-own, with-part-other, with-part-as-long}
+use Rattle.definition.proofs.Rewriting.{Unpaired, agent-number, action-number, hour-number, header-length, again-length, behind-same, same-byte, with-part-number, with-part-own, with-part-other, with-part-as-long}
 use Rattle.definition.proofs.Tests.{and-true, or-false, never-true}
 use Rattle.definition.specs.01-Words.{word, words, absent}
 use Rattle.definition.specs.02-Ranges.{any, listed, update}
 use Rattle.definition.specs.03-Lists.{joinAll}
 use Rattle.definition.specs.04-Checks.{each, Fails, AllHold, FirstFault, here}
-use Rattle.definition.specs.11-Layout.{headerBytes, formula-part, log-part, observer-part, condition-part, obligation-part, label-part, step-part, premise-part, recordBytes, agentOf, actionOf, offset, part, recordsIn, fieldIn, dueOffset, badLength, faultyPart, end}
+use Rattle.definition.specs.11-Layout.{headerBytes, formula-part, log-part, observer-part, condition-part, obligation-part, label-part, step-part, premise-part, recordBytes, agentOf, actionOf, hourOf, offset, part, recordsIn, fieldIn, dueOffset, badLength, faultyPart, end}
 use Rattle.definition.specs.13-Formulas.{Formula}
 use Rattle.definition.specs.15-Records.{Log, logOf, rowsIn, observersIn, rowAction, rowFrom, rowCount, badSpan, badObserver, badAction, badLogRow, logChecks}
 use Rattle.definition.specs.16-Views.{seenIn}
@@ -201,15 +201,16 @@ module _ (s : List ℕ) (f : Parted s) where
         observers = same-part observer-part (omega arith) (omega arith) i;
       }
 
-  number-struck : (i : ℕ) → i < 2 → headerNumber (strike s) i ≡ headerNumber s i
-  number-struck i h = rw strikes (with-part-number s log-part rows i h)
+  number-struck : {i : ℕ} → Unpaired i → headerNumber (strike s) i ≡ headerNumber s i
+  number-struck u = rw strikes (with-part-number s log-part rows u)
 
   pub alike-struck : Alike s (strike s)
-  unfolding agentOf actionOf headerNumber
+  unfolding agentOf actionOf hourOf headerNumber
   alike-struck =
       record {
-        agent = sym (number-struck 0 (omega arith));
-        action = sym (number-struck 1 (omega arith));
+        agent = sym (number-struck agent-number);
+        action = sym (number-struck action-number);
+        hour = sym (number-struck hour-number);
         formulas = sym (same-part formula-part (omega arith) (omega arith));
         conditions = sym (same-part condition-part (omega arith) (omega arith));
         obligations = sym (same-part obligation-part (omega arith) (omega arith));
@@ -231,8 +232,12 @@ spliced (x ∷ a) b c d l (suc i) h = spliced a b c d l i (λ j k e. h j k (omeg
 
 -- What striking out does to a file's bytes: those of the actions of unseen rows are 255, and every other is kept.
 module _ (s : List ℕ) (f : Parted s) where
+  -- The header in front of these parts.
+  abbrev headerOf : List (List ℕ) → List ℕ
+  headerOf parts = words (agentOf s ∷ actionOf s ∷ pairs headerBytes parts ++ hourOf s ∷ [])
+
   abbrev header : List ℕ
-  header = words (agentOf s ∷ actionOf s ∷ pairs headerBytes (listed (part s) 8 0))
+  header = headerOf (listed (part s) 8 0)
 
   abbrev front : List ℕ
   front = header ++ part s formula-part
@@ -241,19 +246,19 @@ module _ (s : List ℕ) (f : Parted s) where
   behind = joinAll (listed (part s) 6 2)
 
   around-log : written (contentsOf s) ≡ front ++ (part s log-part ++ behind)
-  unfolding contentsOf written laidOut listed joinAll headerNumber agentOf actionOf
+  unfolding contentsOf written laidOut listed joinAll headerNumber agentOf actionOf hourOf
   around-log = sym (append-assoc header (part s formula-part) (part s log-part ++ behind))
 
-  same-header : words (agentOf s ∷ actionOf s ∷ pairs headerBytes (listed (update (part s) log-part (rows s f)) 8 0)) ≡ header
+  same-header : headerOf (listed (update (part s) log-part (rows s f)) 8 0) ≡ header
   unfolding listed pairs update logOf
   same-header = rw (same-length (logOf s) (agentOf s))
 
   around-struck : strike s ≡ front ++ (rows s f ++ behind)
-  unfolding withPart written laidOut listed joinAll update headerNumber agentOf actionOf
+  unfolding withPart written laidOut listed joinAll update headerNumber agentOf actionOf hourOf
   around-struck = strikes s f ∙ ap (λ h. h ++ (part s formula-part ++ (rows s f ++ behind))) same-header ∙ sym (append-assoc header (part s formula-part) (rows s f ++ behind))
 
   front-length : length front ≡ offset s log-part
-  unfolding contentsOf dueOffset end headerNumber agentOf actionOf
+  unfolding contentsOf dueOffset end headerNumber agentOf actionOf hourOf
   front-length =
       simp length-append
       (omega (arith, header-length (contentsOf s), part-length s f formula-part (omega arith), part-due s f formula-part (omega arith), part-due s f log-part (omega arith)))

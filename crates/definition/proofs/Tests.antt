@@ -5,7 +5,7 @@ use mathlib.Core.Bool.{Bool, true, false, not, _&&_, _||_, true≢false, false�
 use native.Mathlib.Nat.{eq-or-lt-of-le}
 use native.Mathlib.Omega.{arith}
 use lib.Dec.{eqb, ltb}
-use borrow.Author.Tests.{not-true, not-false, ltb-true, ltb-false, eqb-true, eq-eqb}
+use borrow.Author.Tests.{not-true, not-false, ltb-true, ltb-false, lt-ltb, eqb-true, eq-eqb}
 use mathlib.Core.Logic.{_↔_, _⊎_, inl, inr, ⊎-elim}
 
 pub and-true : (a b : Bool) → a && b ≡ true → (a ≡ true) × (b ≡ true)
@@ -89,6 +89,23 @@ and-is {a} {b} h k = (
 
 pub equals-is : (n m : ℕ) → (eqb n m ≡ true) ↔ (n ≡ m)
 equals-is n m = (eqb-true n m, eq-eqb n m)
+
+pub below-is : (n m : ℕ) → (ltb n m ≡ true) ↔ (n < m)
+below-is n m = (ltb-true n m, lt-ltb n m)
+
+-- For a part that is said by its test.
+pub itself-is : (a : Bool) → (a ≡ true) ↔ (a ≡ true)
+itself-is a = (λ e. e, λ e. e)
+
+-- Tests for a fault, which find none just if P holds, and Q: a test that says whether P, negated; two of them joined; and what it is that one finds a fault.
+pub faultless-not : {a : Bool} {P : Type 0} → ((a ≡ true) ↔ P) → ((not a ≡ false) ↔ P)
+faultless-not {a} h = (λ e. h .0 (not-false a e), λ p. rw (h .1 p))
+
+pub faultless-or : {a b : Bool} {P Q : Type 0} → ((a ≡ false) ↔ P) → ((b ≡ false) ↔ Q) → ((a || b ≡ false) ↔ (P × Q))
+faultless-or {a} {b} h k = (λ e. let f = or-false a b e in (h .0 (f .0), k .0 (f .1)), λ p. rw (h .1 (p .0), k .1 (p .1)))
+
+pub faulty-is : {a : Bool} {P : Type 0} → ((a ≡ false) ↔ P) → ((a ≡ true) ↔ (P → ⊥))
+faulty-is {a} h = (λ e p. not-both e (h .1 p), λ n. never-false a (λ e. n (h .0 e)))
 
 -- Two tests that say whether P give one answer.
 pub one-answer : (a : Bool) {b : Bool} {P : Type 0} → ((a ≡ true) ↔ P) → ((b ≡ true) ↔ P) → a ≡ b

@@ -8,13 +8,13 @@ use lib.Dec.{eqb, ltb}
 use Rattle.definition.specs.01-Words.{word}
 use Rattle.definition.specs.04-Checks.{Check, single, each}
 
--- "Header, 36 bytes: agent, audited action (a formula number), then eight pairs of offset and length in bytes, sorted by offset."
+-- "Agent, audited action (a formula number), then eight pairs of offset and length in bytes, sorted by offset." Document 02, request 6: "the header gains the audit hour at byte 36 .. and has 38 bytes".
 abbrev pub headerBytes : ℕ
-headerBytes = 36
+headerBytes = 38
 
--- "So a file has at most 47,652 bytes."
+-- "The largest file has 47,910."
 abbrev pub mostBytes : ℕ
-mostBytes = 47652
+mostBytes = 47910
 
 -- The parts, by their places.
 abbrev pub formula-part : ℕ
@@ -45,9 +45,9 @@ premise-part = 7
 abbrev pub rowBytes : ℕ
 rowBytes = 8
 
--- Each part's "record bytes".
+-- Each part's "record bytes". Document 02, request 6: "the obligation record grows to eight bytes".
 unfoldable pub recordBytes : ℕ → ℕ
-recordBytes p = getD (rowBytes ∷ 6 ∷ 2 ∷ 2 ∷ 4 ∷ 4 ∷ 10 ∷ 2 ∷ []) p 1
+recordBytes p = getD (rowBytes ∷ 6 ∷ 2 ∷ 2 ∷ 8 ∷ 4 ∷ 10 ∷ 2 ∷ []) p 1
 
 -- Each part's "most records".
 unfoldable pub mostRecords : ℕ → ℕ
@@ -68,6 +68,9 @@ agentOf s = word s 0
 
 unfoldable pub actionOf : List ℕ → ℕ
 actionOf s = word s 2
+
+unfoldable pub hourOf : List ℕ → ℕ
+hourOf s = word s 36
 
 unfoldable pub offset : List ℕ → ℕ → ℕ
 offset s p = word s (4 * p + 4)
@@ -98,11 +101,11 @@ fieldIn b p k i = word b (recordBytes p * k + i)
 unfoldable pub field : List ℕ → (p k i : ℕ) → ℕ
 field s p k i = fieldIn (part s p) p k i
 
--- "The first offset is 36, each next one is where the last part ended, the last part ends the file."
+-- The first part begins behind the header, "each next one is where the last part ended, the last part ends the file."
 unfoldable pub dueOffset : List ℕ → ℕ → ℕ
 dueOffset s p = cond (eqb p 0) headerBytes (end s (p - 1))
 
--- Check 1: "under 36 or over 47,652 bytes", place 0.
+-- Check 1: the file is shorter than a header or longer than the largest file, place 0; "refusals 1 and 2 .. use the new figures".
 unfoldable pub badLength : List ℕ → Bool
 badLength s = ltb (length s) headerBytes || ltb mostBytes (length s)
 
@@ -136,5 +139,5 @@ layoutChecks s =
 
 -- What an evaluation unfolds of this file.
 unfoldable pub evaluatedLayout : Unit {0}
-unfolding recordBytes mostRecords fullParts agentOf actionOf offset size end count part recordsIn fieldIn field dueOffset badLength orphans isMisplaced faultyPart layoutChecks
+unfolding recordBytes mostRecords fullParts agentOf actionOf hourOf offset size end count part recordsIn fieldIn field dueOffset badLength orphans isMisplaced faultyPart layoutChecks
 evaluatedLayout = tt

@@ -6,7 +6,7 @@ use lib.Dec.{eqb, ltb, leb}
 use Rattle.definition.specs.01-Words.{absent}
 use Rattle.definition.specs.02-Ranges.{any}
 use Rattle.definition.specs.04-Checks.{Check, single, each}
-use Rattle.definition.specs.11-Layout.{log-part, observer-part, condition-part, obligation-part, label-part, step-part, premise-part, formula-part, part, recordsIn, fieldIn, field, count, agentOf, actionOf}
+use Rattle.definition.specs.11-Layout.{log-part, observer-part, condition-part, obligation-part, label-part, step-part, premise-part, formula-part, part, recordsIn, fieldIn, field, count, agentOf, actionOf, hourOf}
 use Rattle.definition.specs.12-Terms.{agents, classOf, isObject}
 use Rattle.definition.specs.13-Formulas.{Formula, each-use, once, isPolicy, isAction, isPredicate, closed, ground}
 use Rattle.definition.specs.14-Book.{treeIn, book}
@@ -52,6 +52,13 @@ obligationMark s k = field s obligation-part k 0
 
 unfoldable pub obligationAction : List ℕ → ℕ → ℕ
 obligationAction s k = field s obligation-part k 2
+
+-- Document 02, request 6: "a due hour .. and the log row that did it".
+unfoldable pub obligationDue : List ℕ → ℕ → ℕ
+obligationDue s k = field s obligation-part k 4
+
+unfoldable pub obligationRow : List ℕ → ℕ → ℕ
+obligationRow s k = field s obligation-part k 6
 
 unfoldable pub labelMark : List ℕ → ℕ → ℕ
 labelMark s k = field s label-part k 0
@@ -120,9 +127,16 @@ badCondition s l k =
     let f = treeIn l (conditionFormula s k) in
     not (eqb (conditionFormula s k) absent || (isPredicate f && ground f))
 
--- Check 7: "bad obligation", place: entry. "Mark 1 (each use) or 2 (once), ground action."
-unfoldable pub badObligation : List ℕ → List Formula → ℕ → Bool
-badObligation s l k = not (isDuty (obligationMark s k) && isGroundAction (treeIn l (obligationAction s k)))
+-- The row that an obligation names, of a log with so many rows, is at fault if it is neither absent nor in the log. "Absent: not done; beyond the log: refusal 7."
+unfoldable pub badRowNamed : (rows n : ℕ) → Bool
+badRowNamed rows n = not (eqb n absent || ltb n rows)
+
+-- Check 7: "bad obligation", place: entry. "Mark 1 (each use) or 2 (once), ground action", and "a due hour (absent: refusal 7)".
+unfoldable pub badObligation : List ℕ → List Formula → (rows : ℕ) → ℕ → Bool
+badObligation s l rows k =
+    not (isDuty (obligationMark s k) && isGroundAction (treeIn l (obligationAction s k)))
+    || eqb (obligationDue s k) absent
+    || badRowNamed rows (obligationRow s k)
 
 -- Check 8: "bad label", place: entry. "Mark 0 and a closed policy, or mark 1 or 2 and a closed action."
 unfoldable pub badLabel : List ℕ → List Formula → ℕ → Bool
@@ -130,9 +144,9 @@ badLabel s l k =
     let f = treeIn l (labelFormula s k) in
     not (closed f && ((eqb (labelMark s k) 0 && isPolicy f) || (isDuty (labelMark s k) && isAction f)))
 
--- Check 9: "agent no agent, or action no ground action", place 0.
+-- Check 9: "agent no agent, or action no ground action", or the audit hour absent; place 0.
 unfoldable pub badAudit : List ℕ → List Formula → Bool
-badAudit s l = not (isObject agents (classOf (agentOf s)) && isGroundAction (treeIn l (actionOf s)))
+badAudit s l = not (isObject agents (classOf (agentOf s)) && isGroundAction (treeIn l (actionOf s))) || eqb (hourOf s) absent
 
 -- Check 5.
 unfoldable pub logChecks : Log → List Formula → List Check
@@ -143,12 +157,12 @@ unfoldable pub recordChecks : List ℕ → List Check
 recordChecks s =
     let l = formulas s in
     each 6 (count s condition-part) (badCondition s l)
-    ∷ each 7 (count s obligation-part) (badObligation s l)
+    ∷ each 7 (count s obligation-part) (badObligation s l (rowsIn (logOf s)))
     ∷ each 8 (count s label-part) (badLabel s l)
     ∷ single 9 0 (badAudit s l)
     ∷ []
 
 -- What an evaluation unfolds of this file.
 unfoldable pub evaluatedRecords : Unit {0}
-unfolding formulas logOf rowsIn observersIn rowAction rowFrom rowCount observer conditionFormula obligationMark obligationAction labelMark labelFormula stepRule stepFormula stepArgument stepFrom stepCount premiseStep spanDue spanFault badSpan isGroundAction isDuty badObserver badAction badLogRow badCondition badObligation badLabel badAudit logChecks recordChecks
+unfolding formulas logOf rowsIn observersIn rowAction rowFrom rowCount observer conditionFormula obligationMark obligationAction obligationDue obligationRow labelMark labelFormula stepRule stepFormula stepArgument stepFrom stepCount premiseStep spanDue spanFault badSpan isGroundAction isDuty badObserver badAction badLogRow badCondition badRowNamed badObligation badLabel badAudit logChecks recordChecks
 evaluatedRecords = tt

@@ -11,7 +11,7 @@ use Rattle.definition.specs.11-Layout.{headerBytes, log-part, recordByte
 use Rattle.definition.specs.15-Records.{Log, logOf}
 use Rattle.definition.specs.16-Views.{seenIn}
 
--- Number i of the header: 0 is the agent, 1 the audited action.
+-- Number i of the header: 0 is the agent, 1 the audited action, 18 the audit hour, behind the eight pairs.
 unfoldable pub headerNumber : List ℕ → ℕ → ℕ
 headerNumber s i = word s (2 * i)
 
@@ -29,18 +29,18 @@ pairs at [] = []
 pairs at (p ∷ ps) = at ∷ length p ∷ pairs (at + length p) ps
 
 -- The file of a header and these parts.
-unfoldable pub laidOut : (agent action : ℕ) → List (List ℕ) → List ℕ
-laidOut agent action parts = words (agent ∷ action ∷ pairs headerBytes parts) ++ joinAll parts
+unfoldable pub laidOut : (agent action hour : ℕ) → List (List ℕ) → List ℕ
+laidOut agent action hour parts = words (agent ∷ action ∷ pairs headerBytes parts ++ hour ∷ []) ++ joinAll parts
 
 -- The file that holds this.
 unfoldable pub written : Contents → List ℕ
-written c = laidOut (c .numbers 0) (c .numbers 1) (listed (c .parts) 8 0)
+written c = laidOut (c .numbers 0) (c .numbers 1) (c .numbers 18) (listed (c .parts) 8 0)
 
 -- The file with these bytes as its part p. The other parts keep their bytes, and the header says where all of them are.
 unfoldable pub withPart : List ℕ → (p : ℕ) → List ℕ → List ℕ
 withPart s p b = written (record { numbers = headerNumber s; parts = update (part s) p b })
 
--- The file with this as number i of its header.
+-- The file with this as number i of its header, where that is the agent, the audited action or the audit hour. The pairs are those of the parts, whatever is put in their place.
 unfoldable pub withNumber : List ℕ → (i n : ℕ) → List ℕ
 withNumber s i n = written (record { numbers = update (headerNumber s) i n; parts = part s })
 

@@ -12,6 +12,7 @@ use Rattle.definition.specs.17-Case.{Case, caseOf}
 use Rattle.definition.specs.18-Admission.{admissionChecks}
 use Rattle.definition.specs.21-Rules.{isThat, owed}
 use Rattle.definition.specs.22-Steps.{State, opensIn, usedIn, startState, checksOfSteps, stateAt}
+use Rattle.definition.specs.23-Duties.{dutyChecks}
 
 -- "Passed (count of obligations, count of rows; ..)", "None owed", "Refused (number, place)".
 pub data Verdict : Type 0 where
@@ -91,9 +92,9 @@ closingChecks c s =
 unfoldable pub roomChecks : Case → State → (room : ℕ) → List Check
 roomChecks c s room = single 23 (needed c s) (shortRoom c s room) ∷ []
 
--- Checks 20 to 23.
+-- Checks 20 to 23, with 31 and 32 "between 22 and 23".
 unfoldable pub endChecks : Case → State → (room : ℕ) → List Check
-endChecks c s room = closingChecks c s ++ roomChecks c s room
+endChecks c s room = closingChecks c s ++ dutyChecks c ++ roomChecks c s room
 
 -- The state that all steps leave.
 unfoldable pub finalState : Case → State
@@ -103,9 +104,9 @@ finalState c = stateAt c (c .steps)
 unfoldable pub proofChecks : Case → (room : ℕ) → List Check
 proofChecks c room = checksOfSteps c (c .steps) 0 startState ++ endChecks c (finalState c) room
 
--- Where nothing is owed, checks 10 and 11 are the last.
+-- Where nothing is owed, 31 and 32 are "directly before "none owed"".
 unfoldable pub checksIfOwed : Option Formula → Case → (room : ℕ) → List Check
-checksIfOwed none c room = []
+checksIfOwed none c room = dutyChecks c
 checksIfOwed (some f) c room = proofChecks c room
 
 -- What follows the admission.

@@ -1,4 +1,4 @@
--- What the program prints: "`case` and the bytes read (at most 47,653), then `passed D R`, `none owed` or `refused N P`, then `duty N` per obligation and `row N` per log row".
+-- What the program prints: "`case` and the bytes read .., then `passed D R`, `none owed` or `refused N P`, then `duty N` per obligation and `row N` per log row".
 -- A text is a list of ASCII codes.
 use Prim.Native.Nat.{ℕ, zero, suc, _+_, _-_, _/_, _%_, _^_, _≤_, _<_}
 use mathlib.Core.Bool.{cond}

@@ -13,7 +13,7 @@ use Rattle.definition.specs.11-Layout.{mostBytes}
 use Rattle.definition.specs.31-Outcome.{refused, outcome}
 use Rattle.definition.specs.33-Text.{lentRoom, answerText}
 
--- "The bytes read (at most 47,653)": one more than the longest file has, so that a longer input is refused for its length.
+-- "The bytes read": at most one more than the longest file has, so that a longer input is refused for its length.
 abbrev pub mostRead : ℕ
 mostRead = mostBytes + 1
 

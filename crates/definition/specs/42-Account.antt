@@ -1,4 +1,4 @@
--- What a justification is, said without tests: the sixteen rules, a constructor each, and trees of reasoning over them.
+-- What a justification is, said without tests: the sixteen rules, a constructor each, and trees of reasoning over them; and what it is that the duties are kept.
 -- A tree is that of a numbered step of the file; the labels it leaves open, the obligations it spends and the steps it consists of are handed on from its premises.
 use Prim.Native.Nat.{ℕ, _+_, _-_, _≤_, _<_}
 use mathlib.Core.Bool.{true, false, _||_}
@@ -199,3 +199,18 @@ pub record Account (c : Case) (f : Formula) : Type 0 where
   pub proof : Proof c (c .steps - 1) f opens spent steps
   pub none-open : (l : ℕ) → l < c .labels → opens l ≡ true → ⊥
   pub all-used : (k : ℕ) → k < c .steps → Among k steps
+
+-- The duties' part: definition 6 of source document 000, "each obligation that has expired has been (executed and) logged", as request 6 of document 02 has it.
+
+-- Obligation o was carried out: it names a row, and the agent sees that row with the obligation's action. A number beyond the log shows nothing.
+pub record CarriedOut (c : Case) (o : ℕ) : Type 0 where
+  pub row : ℕ
+  pub named : c .obligation o .row ≡ some row
+  pub seen : c .row row ≡ shows (c .obligation o .formula)
+
+-- "An obligation due before the audit hour must name a row seen by the agent that carries its action, cited or not, even where no proof is owed." "No two each-use obligations, expired or not, may name one row."
+pub record DutiesKept (c : Case) : Type 0 where
+  pub carried-out : (o : ℕ) → o < c .obligations → c .obligation o .due < c .hour → CarriedOut c o
+  pub apart :
+      (o p k : ℕ) → o < p → p < c .obligations → c .obligation o .mark ≡ each-use → c .obligation p .mark ≡ each-use →
+      c .obligation o .row ≡ some k → c .obligation p .row ≡ some k → ⊥

@@ -4,7 +4,7 @@ use mathlib.Core.Bool.{true, false}
 use mathlib.Core.Path.{_≡_}
 use mathlib.Core.Logic.{_⊎_}
 use mathlib.Core.List.{List}
-use Rattle.definition.specs.11-Layout.{formula-part, condition-part, obligation-part, label-part, step-part, premise-part, agentOf, actionOf, part}
+use Rattle.definition.specs.11-Layout.{formula-part, condition-part, obligation-part, label-part, step-part, premise-part, agentOf, actionOf, hourOf, part}
 use Rattle.definition.specs.15-Records.{Log, logOf, rowsIn, rowAction}
 use Rattle.definition.specs.16-Views.{seenIn}
 
@@ -20,10 +20,11 @@ pub record LogAlike (agent : ℕ) (g h : Log) : Type 0 where
   pub rows : rowsIn g ≡ rowsIn h
   pub row : (k : ℕ) → k < rowsIn g → RowAlike agent g h k
 
--- The same agent, audited action, formulas, conditions, obligations, labels, steps and premises, and alike logs.
+-- The same agent, audited action, audit hour, formulas, conditions, obligations, labels, steps and premises, and alike logs.
 pub record Alike (s t : List ℕ) : Type 0 where
   pub agent : agentOf s ≡ agentOf t
   pub action : actionOf s ≡ actionOf t
+  pub hour : hourOf s ≡ hourOf t
   pub formulas : part s formula-part ≡ part t formula-part
   pub conditions : part s condition-part ≡ part t condition-part
   pub obligations : part s obligation-part ≡ part t obligation-part

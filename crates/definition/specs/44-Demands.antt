@@ -17,8 +17,9 @@ use Rattle.definition.specs.17-Case.{Case, caseOf}
 use Rattle.definition.specs.18-Admission.{Parted, admissionChecks, admission}
 use Rattle.definition.specs.19-Rewriting.{strike}
 use Rattle.definition.specs.22-Steps.{State, stepChecks, stateAt}
+use Rattle.definition.specs.23-Duties.{dutyChecks}
 use Rattle.definition.specs.31-Outcome.{owingChecks, endChecks, finalState, allChecks, passed, none-owed, refused, Outcome, outcome}
-use Rattle.definition.specs.42-Account.{Owes, Account}
+use Rattle.definition.specs.42-Account.{Owes, Account, DutiesKept}
 use Rattle.definition.specs.43-Alike.{Alike}
 
 -- Demand 1: every case file, however damaged, gets an answer; a refusal has the number and place of the first failing check, and keeps every entry of the room.
@@ -46,7 +47,7 @@ FirstIsTold = (s room : List ℕ) (n p : ℕ) → (outcome s room .verdict ≡ r
 abbrev pub StepsHold : Case → ℕ → Type 0
 StepsHold c k = (j : ℕ) → j < k → AllHold (stepChecks c j (stateAt c j))
 
--- The same by groups: all groups before that of the failing check hold, and where it is a step's, all checks of the steps before it.
+-- The same by groups: all groups before that of the failing check hold, and where it is a step's, all checks of the steps before it. Without steps, those of the duties come directly behind 10 and 11.
 pub data InTable (s : List ℕ) (room : ℕ) : (number place : ℕ) → Type 0 where
   in-admission : {n p : ℕ} → FirstFault (admissionChecks s) n p → InTable s room n p
   in-owing : {n p : ℕ} → AllHold (admissionChecks s) → FirstFault (owingChecks (caseOf s)) n p → InTable s room n p
@@ -56,6 +57,9 @@ pub data InTable (s : List ℕ) (room : ℕ) : (number place : ℕ) → Type 0 w
   in-end :
       {n p : ℕ} → AllHold (admissionChecks s) → AllHold (owingChecks (caseOf s)) → 0 < caseOf s .steps → StepsHold (caseOf s) (caseOf s .steps) →
       FirstFault (endChecks (caseOf s) (finalState (caseOf s)) room) n p → InTable s room n p
+  in-duties :
+      {n p : ℕ} → AllHold (admissionChecks s) → AllHold (owingChecks (caseOf s)) → caseOf s .steps ≡ 0 →
+      FirstFault (dutyChecks (caseOf s)) n p → InTable s room n p
 
 abbrev pub RefusedByTable : Type 0
 RefusedByTable = (s room : List ℕ) (n p : ℕ) → (outcome s room .verdict ≡ refused n p) ↔ InTable s (length room) n p
@@ -70,9 +74,17 @@ StepIsPlace = (c : Case) (k n p : ℕ) (t : State) → FirstFault (stepChecks c 
 abbrev pub Passes : List ℕ → List ℕ → Type 0
 Passes s room = (d : ℕ) × (r : ℕ) × (outcome s room .verdict ≡ passed d r)
 
--- The file is admitted, something is owed, and the justification has an account of it.
+-- Something is owed, and the justification has an account of it.
+abbrev pub Accounted : Case → Type 0
+Accounted c = (f : Formula) × Owes (c .agent) (c .action) f × Account c f
+
+-- Nothing is owed, and there are no steps.
+abbrev pub OwesNothing : Case → Type 0
+OwesNothing c = (c .steps ≡ 0) × ((f : Formula) → Owes (c .agent) (c .action) f → ⊥)
+
+-- The file is admitted, something is owed, the justification has an account of it, and the duties are kept.
 abbrev pub Justified : List ℕ → Type 0
-Justified s = (admission s ≡ accepts tt) × (f : Formula) × Owes (caseOf s .agent) (caseOf s .action) f × Account (caseOf s) f
+Justified s = (admission s ≡ accepts tt) × Accounted (caseOf s) × DutiesKept (caseOf s)
 
 -- A step of the rule cites the entry.
 abbrev pub Cites : Case → (rule entry : ℕ) → Type 0
@@ -97,11 +109,9 @@ PassesExactly = (s room : List ℕ) → Passes s room ↔ (Justified s × (n : �
 abbrev pub RefusedForRoom : Type 0
 RefusedForRoom = (s room : List ℕ) (n : ℕ) → (outcome s room .verdict ≡ refused 23 n) ↔ (Justified s × Needs (caseOf s) n × (length room < n))
 
--- The verdict is "none owed" exactly if the file is admitted, has no steps, and nothing is owed.
+-- The verdict is "none owed" exactly if the file is admitted, has no steps, nothing is owed, and the duties are kept.
 abbrev pub NoneOwedExactly : Type 0
-NoneOwedExactly =
-    (s room : List ℕ) →
-    (outcome s room .verdict ≡ none-owed) ↔ ((admission s ≡ accepts tt) × (caseOf s .steps ≡ 0) × ((f : Formula) → Owes (caseOf s .agent) (caseOf s .action) f → ⊥))
+NoneOwedExactly = (s room : List ℕ) → (outcome s room .verdict ≡ none-owed) ↔ ((admission s ≡ accepts tt) × OwesNothing (caseOf s) × DutiesKept (caseOf s))
 
 -- What a pass writes: first the obligations, then the rows; the counts are the lists' lengths.
 pub record Lists (s room : List ℕ) (d r : ℕ) : Type 0 where

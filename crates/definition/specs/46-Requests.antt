@@ -126,7 +126,7 @@ RefiningsAlone = (s room : List ℕ) → (outcomeWithout isRefiningNumber s room
 
 -- What the request is for: the implication that a step refines by holds without the log.
 
--- Two files have the same agent, of whom the rules speak, the same formulas and the same labels; the second has its parts where they are due. Its log, conditions and obligations may be any, and so may its audited action.
+-- Two files have the same agent, of whom the rules speak, the same formulas and the same labels; the second has its parts where they are due. Its log, conditions and obligations may be any, and so may its audited action and audit hour.
 pub record SameBookAndLabels (s t : List ℕ) : Type 0 where
   pub parted : Parted t
   pub agent : agentOf s ≡ agentOf t

@@ -41,27 +41,36 @@ userActionRow c x y z = formulaRow 10 c x y z
 unfoldable pub step : (rule formula argument start len : ℕ) → List ℕ
 step r f a start len = r ∷ f ∷ a ∷ start ∷ len ∷ []
 
+-- The audit hour of the examples, unless they say another.
+abbrev pub auditHour : ℕ
+auditHour = 50
+
+-- The numbers of one obligation that names no row and is not due: due at the audit hour is not expired.
+unfoldable pub notDue : (mark action : ℕ) → List ℕ
+notDue mark action = mark ∷ action ∷ auditHour ∷ absent ∷ []
+
 -- A file of formula rows, and the numbers of the other parts.
 pub record FileParts : Type 0 where
   pub agent : ℕ
   pub action : ℕ
+  pub hour : ℕ
   pub formulas : List (List ℕ)
   pub rows : List ℕ
   pub observers : List ℕ
   pub conditions : List ℕ
-  pub obligations : List ℕ
+  pub obligations : List (List ℕ)
   pub labels : List ℕ
   pub steps : List (List ℕ)
   pub premises : List ℕ
 
 unfoldable pub fileOf : FileParts → List ℕ
 fileOf w =
-    laidOut (w .agent) (w .action)
+    laidOut (w .agent) (w .action) (w .hour)
     (joinAll (w .formulas)
     ∷ words (w .rows)
     ∷ words (w .observers)
     ∷ words (w .conditions)
-    ∷ words (w .obligations)
+    ∷ words (joinAll (w .obligations))
     ∷ words (w .labels)
     ∷ words (joinAll (w .steps))
     ∷ words (w .premises)
@@ -69,5 +78,5 @@ fileOf w =
 
 -- What an evaluation unfolds of this file.
 unfoldable pub evaluatedFiles : Unit {0}
-unfolding formulaRow predicateRow ownsRow saysRow andRow impliesRow afterRow communicatesRow createsRow userActionRow step fileOf
+unfolding formulaRow predicateRow ownsRow saysRow andRow impliesRow afterRow communicatesRow createsRow userActionRow step notDue fileOf
 evaluatedFiles = tt

@@ -5,7 +5,7 @@ use mathlib.Core.Path.{_≡_, refl}
 use Rattle.definition.specs.01-Words.{absent}
 use Rattle.definition.specs.13-Formulas.{each-use, once}
 use Rattle.definition.specs.31-Outcome.{refused}
-use Rattle.definition.specs.51-Files.{fileOf, predicateRow, saysRow, impliesRow, afterRow, communicatesRow, userActionRow, step}
+use Rattle.definition.specs.51-Files.{auditHour, notDue, fileOf, predicateRow, saysRow, impliesRow, afterRow, communicatesRow, userActionRow, step}
 use Rattle.definition.specs.53-Desk.{DeskCase, computed, expected, unchanged, grantWith, seenBy, ownerStep, visit, twice, built}
 
 -- "Testing a struck row before its observers shows whether a hidden row is empty." Grant's row struck out: for an agent that does not see it 16, as if it were not struck; for one that does 14.
@@ -20,6 +20,7 @@ sharedLabel =
     (record {
       agent = 0;
       action = 8;
+      hour = auditHour;
       formulas = userActionRow 3 0 absent absent ∷ predicateRow 1 16384 absent absent ∷ predicateRow 2 16384 absent absent ∷ impliesRow 1 2 ∷ saysRow 0 1 1 ∷ saysRow 0 2 1 ∷ afterRow each-use 0 3 ∷ afterRow each-use 0 4 ∷ communicatesRow 0 2 1 ∷ [];
       rows = [];
       observers = [];
@@ -37,6 +38,7 @@ ownerOfNothing =
     (record {
       agent = 0;
       action = 2;
+      hour = auditHour;
       formulas = predicateRow 7 1 absent absent ∷ saysRow 0 0 1 ∷ communicatesRow 0 0 1 ∷ [];
       rows = [];
       observers = [];
@@ -56,8 +58,8 @@ traps =
     -- "Reading an absent condition as formula 0"
     ∷ unchanged (visit (absent ∷ [])) (refused 14 2)
     -- "Taking a mark 1 obligation for a mark 2 demand: they never match", nor the other way round
-    ∷ unchanged (twice once (each-use ∷ 0 ∷ []) 0) (refused 18 2)
-    ∷ unchanged (twice each-use (once ∷ 0 ∷ []) 0) (refused 18 2)
+    ∷ unchanged (twice once (notDue each-use 0 ∷ []) 0) (refused 18 2)
+    ∷ unchanged (twice each-use (notDue once 0 ∷ []) 0) (refused 18 2)
     ∷ []
 
 pub traps-avoided : map computed traps ≡ map expected traps

@@ -1,19 +1,20 @@
 -- Demand 3 on examples: files that differ in a row that the agent does not see have the same outcome, whether a step cites that row or not;
--- and what the demand leaves aside, files that check 1, 2 or 5 refuses, has to be left aside.
+-- what the demand leaves aside, files that check 1, 2 or 5 refuses, has to be left aside; and alike files have to share the audit hour.
 use Prim.Native.Nat.{ℕ, zero, suc, _<_}
 use mathlib.Core.List.{List, [], _∷_, map}
 use mathlib.Core.Logic.{_⊎_, inl, inr}
-use mathlib.Core.Path.{_≡_, refl}
+use mathlib.Core.Path.{_≡_, refl, sym, _∙_}
 use native.Mathlib.Omega.{arith}
-use lib.ListN.{length, take}
+use lib.ListN.{length, take, drop}
 use Rattle.definition.specs.01-Words.{words, absent}
+use Rattle.definition.specs.13-Formulas.{once}
 use Rattle.definition.specs.15-Records.{logOf}
-use Rattle.definition.specs.19-Rewriting.{laidOut, strike}
+use Rattle.definition.specs.19-Rewriting.{laidOut, withNumber, strike}
 use Rattle.definition.specs.31-Outcome.{passed, refused, outcome}
 use Rattle.definition.specs.43-Alike.{RowAlike, Alike}
 use Rattle.definition.specs.44-Demands.{LeftAside, Mended, checking}
-use Rattle.definition.specs.51-Files.{fileOf, formulaRow, predicateRow, ownsRow, saysRow, communicatesRow, createsRow}
-use Rattle.definition.specs.53-Desk.{DeskCase, computed, expected, lent, unchanged, writes, seenBy, ownerStep, built}
+use Rattle.definition.specs.51-Files.{auditHour, fileOf, formulaRow, predicateRow, ownsRow, saysRow, communicatesRow, createsRow}
+use Rattle.definition.specs.53-Desk.{DeskCase, computed, expected, lent, unchanged, writes, seenBy, ownerStep, dueBefore, twiceDue, built}
 
 -- The file is checked in this room without a refusal by 1, 2 or 5.
 abbrev pub WellMade : (s room : List ℕ) → Type 0
@@ -27,6 +28,7 @@ twoRows code creator action observers cited =
     (record {
       agent = 0;
       action = 4;
+      hour = auditHour;
       formulas = createsRow 0 16384 ∷ ownsRow 0 16384 ∷ predicateRow 7 1 16384 absent ∷ saysRow 0 2 1 ∷ communicatesRow 0 2 1 ∷ formulaRow 9 code creator 16384 absent ∷ [];
       rows = 0 ∷ 0 ∷ 1 ∷ action ∷ 1 ∷ length observers ∷ [];
       observers = 0 ∷ observers;
@@ -57,6 +59,7 @@ ways-alike code creator a b c =
     record {
       agent = refl;
       action = refl;
+      hour = refl;
       formulas = refl;
       conditions = refl;
       obligations = refl;
@@ -101,8 +104,12 @@ not-aside n from (inr lt) (inr (inr i)) = omega arith
 pub made-if-refused : (s room : List ℕ) (m q : ℕ) → 2 < m → (m < 5) ⊎ (5 < m) → outcome s room .verdict ≡ refused m q → WellMade s room
 made-if-refused s room m q from other v (n, p, e, aside) = let number : n ≡ m = cc in not-aside m from other (rw number at aside)
 
+-- A verdict is not both.
+pub never-both : {d r n p : ℕ} → passed d r ≡ refused n p → ⊥
+never-both e = let z : _≡_ {A = ℕ} 0 1 = cc in omega arith
+
 pub made-if-passed : (s room : List ℕ) (d r : ℕ) → outcome s room .verdict ≡ passed d r → WellMade s room
-made-if-passed s room d r v (n, p, e, among) = let z : _≡_ {A = ℕ} 0 1 = cc in omega arith
+made-if-passed s room d r v (n, p, e, among) = never-both (sym v ∙ e)
 
 pub ways-made : WellMade (oneWay 0 1) lent × WellMade (otherWay 4 1) lent × WellMade (oneWay 0 0) lent × WellMade (otherWay 4 0) lent
 unfolding built twoRows
@@ -154,18 +161,19 @@ pub record ShowsThrough (number : ℕ) : Type 0 where
 
 -- A header whose parts are all empty, and the same cut short by one byte: no part has it, and it would be 0.
 unfoldable pub emptyParts : List ℕ
-emptyParts = laidOut 0 0 ([] ∷ [] ∷ [] ∷ [] ∷ [] ∷ [] ∷ [] ∷ [] ∷ [])
+emptyParts = laidOut 0 0 auditHour ([] ∷ [] ∷ [] ∷ [] ∷ [] ∷ [] ∷ [] ∷ [] ∷ [])
 
 pub one-shows-through : ShowsThrough 1
 unfolding built emptyParts
 one-shows-through =
     record {
-      one = take 35 emptyParts;
+      one = take 37 emptyParts;
       other = emptyParts;
       place = 0;
       alike = record {
         agent = refl;
         action = refl;
+        hour = refl;
         formulas = refl;
         conditions = refl;
         obligations = refl;
@@ -181,7 +189,7 @@ one-shows-through =
 
 -- No formulas, and one row that nobody is named for, or a byte that is half an observer.
 unfoldable pub observerBytes : List ℕ → List ℕ
-observerBytes bytes = laidOut 0 0 ([] ∷ words (absent ∷ 0 ∷ 0 ∷ []) ∷ bytes ∷ [] ∷ [] ∷ [] ∷ [] ∷ [] ∷ [])
+observerBytes bytes = laidOut 0 0 auditHour ([] ∷ words (absent ∷ 0 ∷ 0 ∷ []) ∷ bytes ∷ [] ∷ [] ∷ [] ∷ [] ∷ [] ∷ [])
 
 pub unnamed-alike : (k : ℕ) → k < 1 → RowAlike 0 (logOf (observerBytes (7 ∷ []))) (logOf (observerBytes [])) k
 unfolding built observerBytes
@@ -198,6 +206,7 @@ two-shows-through =
       alike = record {
         agent = refl;
         action = refl;
+        hour = refl;
         formulas = refl;
         conditions = refl;
         obligations = refl;
@@ -229,3 +238,60 @@ five-shows-through =
 pub struck-is-mended : Mended (oneWay 1 0) 1 × (outcome (oneWay 1 0) lent .verdict ≡ refused 5 1) × (outcome (strike (oneWay 1 0)) lent .verdict ≡ passed 0 1)
 unfolding built twoRows
 struck-is-mended = ((refl, refl), refl, refl)
+
+-- An expired duty that names a row which the agent does not see: whatever action the row has, the duty's own or none, it is not done.
+unfoldable pub unseenDuty : (action : ℕ) → List ℕ
+unseenDuty action = twiceDue action 0 once (dueBefore once 1 ∷ []) 0
+
+pub unseen-rows-alike : (a b k : ℕ) → k < 2 → RowAlike 1 (logOf (unseenDuty a)) (logOf (unseenDuty b)) k
+unfolding built unseenDuty
+unseen-rows-alike a b zero h = inl (refl, refl, refl)
+unseen-rows-alike a b (suc zero) h = inr (refl, refl)
+unseen-rows-alike a b (suc (suc k)) h = absurd (omega arith)
+
+pub unseen-duties-alike : (a b : ℕ) → Alike (unseenDuty a) (unseenDuty b)
+unfolding built unseenDuty
+unseen-duties-alike a b =
+    record {
+      agent = refl;
+      action = refl;
+      hour = refl;
+      formulas = refl;
+      conditions = refl;
+      obligations = refl;
+      labels = refl;
+      steps = refl;
+      premises = refl;
+      log = record { rows = refl; row = unseen-rows-alike a b };
+    }
+
+pub unseen-duties-hidden : map (λ a. outcome (unseenDuty a) lent .verdict) (0 ∷ 3 ∷ 5 ∷ absent ∷ []) ≡ refused 31 0 ∷ refused 31 0 ∷ refused 31 0 ∷ refused 31 0 ∷ []
+unfolding built unseenDuty
+unseen-duties-hidden = refl
+
+-- Alike files share the audit hour, and have to: two files that differ in its two bytes alone, both well made, with different verdicts.
+pub record HourShows : Type 0 where
+  pub one : List ℕ
+  pub other : List ℕ
+  pub before : take 36 one ≡ take 36 other
+  pub behind : drop 38 one ≡ drop 38 other
+  pub one-made : WellMade one lent
+  pub other-made : WellMade other lent
+  pub differ : outcome one lent .verdict ≡ outcome other lent .verdict → ⊥
+
+-- Twice with a duty due at 49 that names no row: expired at the audit hour 50, not expired at 49.
+unfoldable pub auditedAt : (hour : ℕ) → List ℕ
+auditedAt hour = withNumber (twiceDue 0 1 once (dueBefore once absent ∷ []) 0) 18 hour
+
+pub hour-shows : HourShows
+unfolding built auditedAt
+hour-shows =
+    record {
+      one = auditedAt 49;
+      other = auditedAt 50;
+      before = refl;
+      behind = refl;
+      one-made = made-if-passed (auditedAt 49) lent 1 1 refl;
+      other-made = made-if-refused (auditedAt 50) lent 31 0 (omega arith) (inr (omega arith)) refl;
+      differ = never-both {d = 1} {r = 1} {n = 31} {p = 0};
+    }

@@ -14,7 +14,7 @@ use Rattle.definition.specs.17-Case.{caseOf}
 use Rattle.definition.specs.18-Admission.{admission}
 use Rattle.definition.specs.19-Rewriting.{contentsOf, written, withPart, withNumber, strike}
 use Rattle.definition.specs.44-Demands.{checking, admitting}
-use Rattle.definition.specs.51-Files.{fileOf, createsRow, predicateRow}
+use Rattle.definition.specs.51-Files.{auditHour, fileOf, createsRow, predicateRow}
 use Rattle.definition.specs.52-Evaluation.{evaluated}
 
 -- Agent 5. Row 0 is seen; row 1 is seen and struck; rows 2 and 3 are seen by agent 6 alone, and row 3 is struck. The action of row 2 and the conditions are given.
@@ -24,6 +24,7 @@ fourRows row2 conditions =
     (record {
       agent = 5;
       action = 0;
+      hour = auditHour;
       formulas = createsRow 5 16384 ∷ predicateRow 1 16384 absent absent ∷ [];
       rows = 0 ∷ 0 ∷ 2 ∷ absent ∷ 2 ∷ 1 ∷ row2 ∷ 3 ∷ 1 ∷ absent ∷ 4 ∷ 1 ∷ [];
       observers = 5 ∷ 6 ∷ 5 ∷ 6 ∷ 6 ∷ [];

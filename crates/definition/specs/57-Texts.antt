@@ -11,25 +11,26 @@ use Rattle.definition.specs.31-Outcome.{passed, none-owed, refused}
 use Rattle.definition.specs.32-Numbers.{verdictNumbers, runNumbers}
 use Rattle.definition.specs.33-Text.{numeral, lentRoom, answerText, evaluatedText}
 use Rattle.definition.specs.34-Program.{Answer, gives, error, so-far, readAll, printed, mostRead, evaluatedProgram}
+use Rattle.definition.specs.51-Files.{notDue}
 use Rattle.definition.specs.53-Desk.{grantWith, grant, twice, built}
 
--- "case 106", "passed 0 1", "row 0", each with a line end, in ASCII.
-pub grant-printed : answerText grant ≡ 99 ∷ 97 ∷ 115 ∷ 101 ∷ 32 ∷ 49 ∷ 48 ∷ 54 ∷ 10 ∷ 112 ∷ 97 ∷ 115 ∷ 115 ∷ 101 ∷ 100 ∷ 32 ∷ 48 ∷ 32 ∷ 49 ∷ 10 ∷ 114 ∷ 111 ∷ 119 ∷ 32 ∷ 48 ∷ 10 ∷ []
+-- "case 108", "passed 0 1", "row 0", each with a line end, in ASCII.
+pub grant-printed : answerText grant ≡ 99 ∷ 97 ∷ 115 ∷ 101 ∷ 32 ∷ 49 ∷ 48 ∷ 56 ∷ 10 ∷ 112 ∷ 97 ∷ 115 ∷ 115 ∷ 101 ∷ 100 ∷ 32 ∷ 48 ∷ 32 ∷ 49 ∷ 10 ∷ 114 ∷ 111 ∷ 119 ∷ 32 ∷ 48 ∷ 10 ∷ []
 unfolding built evaluatedText
 grant-printed = refl
 
--- "case 200", "refused 17 5", each with a line end, in ASCII.
-pub twice-printed : answerText (twice each-use (each-use ∷ 0 ∷ []) 0) ≡ 99 ∷ 97 ∷ 115 ∷ 101 ∷ 32 ∷ 50 ∷ 48 ∷ 48 ∷ 10 ∷ 114 ∷ 101 ∷ 102 ∷ 117 ∷ 115 ∷ 101 ∷ 100 ∷ 32 ∷ 49 ∷ 55 ∷ 32 ∷ 53 ∷ 10 ∷ []
+-- "case 206", "refused 17 5", each with a line end, in ASCII.
+pub twice-printed : answerText (twice each-use (notDue each-use 0 ∷ []) 0) ≡ 99 ∷ 97 ∷ 115 ∷ 101 ∷ 32 ∷ 50 ∷ 48 ∷ 54 ∷ 10 ∷ 114 ∷ 101 ∷ 102 ∷ 117 ∷ 115 ∷ 101 ∷ 100 ∷ 32 ∷ 49 ∷ 55 ∷ 32 ∷ 53 ∷ 10 ∷ []
 unfolding built evaluatedText
 twice-printed = refl
 
--- "case 204", "passed 2 1", "duty 0", "duty 1", "row 0", each with a line end, in ASCII.
-pub duties-printed : answerText (twice each-use (each-use ∷ 0 ∷ each-use ∷ 0 ∷ []) 1) ≡ 99 ∷ 97 ∷ 115 ∷ 101 ∷ 32 ∷ 50 ∷ 48 ∷ 52 ∷ 10 ∷ 112 ∷ 97 ∷ 115 ∷ 115 ∷ 101 ∷ 100 ∷ 32 ∷ 50 ∷ 32 ∷ 49 ∷ 10 ∷ 100 ∷ 117 ∷ 116 ∷ 121 ∷ 32 ∷ 48 ∷ 10 ∷ 100 ∷ 117 ∷ 116 ∷ 121 ∷ 32 ∷ 49 ∷ 10 ∷ 114 ∷ 111 ∷ 119 ∷ 32 ∷ 48 ∷ 10 ∷ []
+-- "case 214", "passed 2 1", "duty 0", "duty 1", "row 0", each with a line end, in ASCII.
+pub duties-printed : answerText (twice each-use (notDue each-use 0 ∷ notDue each-use 0 ∷ []) 1) ≡ 99 ∷ 97 ∷ 115 ∷ 101 ∷ 32 ∷ 50 ∷ 49 ∷ 52 ∷ 10 ∷ 112 ∷ 97 ∷ 115 ∷ 115 ∷ 101 ∷ 100 ∷ 32 ∷ 50 ∷ 32 ∷ 49 ∷ 10 ∷ 100 ∷ 117 ∷ 116 ∷ 121 ∷ 32 ∷ 48 ∷ 10 ∷ 100 ∷ 117 ∷ 116 ∷ 121 ∷ 32 ∷ 49 ∷ 10 ∷ 114 ∷ 111 ∷ 119 ∷ 32 ∷ 48 ∷ 10 ∷ []
 unfolding built evaluatedText
 duties-printed = refl
 
--- "case 84", "none owed", each with a line end, in ASCII.
-pub creator-printed : answerText (grantWith 0 0 0 0 [] []) ≡ 99 ∷ 97 ∷ 115 ∷ 101 ∷ 32 ∷ 56 ∷ 52 ∷ 10 ∷ 110 ∷ 111 ∷ 110 ∷ 101 ∷ 32 ∷ 111 ∷ 119 ∷ 101 ∷ 100 ∷ 10 ∷ []
+-- "case 86", "none owed", each with a line end, in ASCII.
+pub creator-printed : answerText (grantWith 0 0 0 0 [] []) ≡ 99 ∷ 97 ∷ 115 ∷ 101 ∷ 32 ∷ 56 ∷ 54 ∷ 10 ∷ 110 ∷ 111 ∷ 110 ∷ 101 ∷ 32 ∷ 111 ∷ 119 ∷ 101 ∷ 100 ∷ 10 ∷ []
 unfolding built evaluatedText
 creator-printed = refl
 
@@ -44,8 +45,8 @@ pub admissions-numbered : map runNumbers (accepts tt ∷ refuses 5 1 ∷ []) ≡
 unfolding runNumbers
 admissions-numbered = refl
 
--- "At most 47,653", and "a room of 1,088 entries": one for each obligation and each row that a file can have.
-pub most-read : mostRead ≡ 47653
+-- "At most" one byte more than "the largest file has", and "a room of 1,088 entries": one for each obligation and each row that a file can have.
+pub most-read : mostRead ≡ 47911
 most-read = refl
 
 pub lent-room : (length lentRoom ≡ 1088) × (length lentRoom ≡ mostRecords obligation-part + mostRecords log-part)
@@ -68,7 +69,7 @@ pub grant-in-bytes : printedOf (map (λ b. gives (b ∷ [])) grant ++ gives [] �
 unfolding built evaluatedText evaluatedProgram printedOf
 grant-in-bytes = refl
 
-pub grant-last-byte-alone : printedOf (gives (take 105 grant) ∷ gives (drop 105 grant) ∷ gives [] ∷ []) ≡ some (answerText grant)
+pub grant-last-byte-alone : printedOf (gives (take 107 grant) ∷ gives (drop 107 grant) ∷ gives [] ∷ []) ≡ some (answerText grant)
 unfolding built evaluatedText evaluatedProgram printedOf
 grant-last-byte-alone = refl
 

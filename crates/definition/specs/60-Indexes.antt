@@ -9,7 +9,7 @@ use Rattle.definition.specs.15-Records.{logOf}
 use Rattle.definition.specs.18-Admission.{admissionChecks}
 use Rattle.definition.specs.31-Outcome.{Outcome, Verdict, passed, none-owed, refused}
 use Rattle.definition.specs.35-Index.{indexOf, buildingChecks, Built, building, asBuiltChecks, outcomeThrough}
-use Rattle.definition.specs.51-Files.{fileOf, createsRow, ownsRow, predicateRow, saysRow, communicatesRow}
+use Rattle.definition.specs.51-Files.{auditHour, fileOf, createsRow, ownsRow, predicateRow, saysRow, communicatesRow}
 use Rattle.definition.specs.52-Evaluation.{evaluated}
 use Rattle.definition.specs.53-Desk.{lent, grantWith, grant, seenBy, ownerStep, built}
 
@@ -20,6 +20,7 @@ shared agent action conditions cited =
     (record {
       agent = agent;
       action = action;
+      hour = auditHour;
       formulas = createsRow 0 16384 ∷ ownsRow 0 16384 ∷ predicateRow 7 1 16384 absent ∷ saysRow 0 2 1 ∷ communicatesRow 0 2 1 ∷ [];
       rows = 0 ∷ 0 ∷ 2 ∷ 4 ∷ 2 ∷ 0 ∷ absent ∷ 2 ∷ 2 ∷ 0 ∷ 4 ∷ 1 ∷ [];
       observers = 0 ∷ 3 ∷ 0 ∷ 16383 ∷ 3 ∷ [];
@@ -41,6 +42,7 @@ unobserved rows =
     (record {
       agent = 0;
       action = 0;
+      hour = auditHour;
       formulas = createsRow 0 16384 ∷ [];
       rows = rows;
       observers = [];
@@ -75,7 +77,7 @@ buildsNone f n k p = record { file = f; room = indexRoom n; gives = record { ans
 
 unfoldable pub indexCases : List IndexCase
 indexCases =
-    -- just enough entries, and two more; whoever the agent is, and also where 7 or 9 would refuse
+    -- just enough entries, and two more; whoever the agent is, and also where 6 or 9 would refuse
     builds (shared 0 4 [] 0) 15 sharedIndex
     ∷ builds (shared 0 4 [] 0) 17 sharedIndex
     ∷ builds (shared 7 4 [] 0) 17 sharedIndex
@@ -91,7 +93,7 @@ indexCases =
     ∷ buildsNone (shared 0 4 [] 0) 0 29 15
     -- 1, 2 and 5 come before it
     ∷ buildsNone [] 0 1 0
-    ∷ buildsNone (take 105 grant) 0 2 7
+    ∷ buildsNone (take 107 grant) 0 2 7
     ∷ buildsNone (grantWith 0 4 1 0 (seenBy 0 ∷ ownerStep ∷ []) (0 ∷ [])) 0 5 0
     ∷ []
 

@@ -14,6 +14,7 @@ pub mod 18-Admission
 pub mod 19-Rewriting
 pub mod 21-Rules
 pub mod 22-Steps
+pub mod 23-Duties
 pub mod 31-Outcome
 pub mod 32-Numbers
 pub mod 33-Text
@@ -27,6 +28,7 @@ pub mod 45-Promises
 pub mod 46-Requests
 pub mod 47-Indexed
 pub mod 48-Places
+pub mod 49-Duties
 pub mod 51-Files
 pub mod 52-Evaluation
 pub mod 53-Desk
@@ -37,3 +39,5 @@ pub mod 57-Texts
 pub mod 58-Table
 pub mod 59-Sizes
 pub mod 60-Indexes
+pub mod 61-DueHours
+pub mod 62-StepFaults

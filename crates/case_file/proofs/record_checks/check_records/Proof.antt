@@ -6,7 +6,7 @@ use Rattle.definition.proofs.CheckLaws.{lowest-fails, lowest-holds, goes-on, st
 use Rattle.definition.proofs.PartLaws.{part-few}
 use Rattle.definition.specs.04-Checks.{Holds, each}
 use Rattle.definition.specs.11-Layout.{condition-part, obligation-part, label-part, count, mostRecords}
-use Rattle.definition.specs.15-Records.{formulas, badCondition, badObligation, badLabel, recordChecks}
+use Rattle.definition.specs.15-Records.{logOf, rowsIn, formulas, badCondition, badObligation, badLabel, recordChecks}
 use Rattle.words.specs.Meanings.{failureMeant}
 use Rattle.case_file.specs.Entries.{badEntry}
 use Rattle.case_file.proofs.record_checks.check_records.Statement.{statement}
@@ -26,7 +26,7 @@ hold-6 : (c : tie.Else1) → Holds (each 6 (count (start-6 c .args .file .now) c
 unfolding badEntry
 hold-6 c = lowest-holds 6 _ (c .before .before .first-bad .ensures) (omega (arith, c .if1 .left, c .before .count-of .ensures .0))
 
-hold-7 : (c : tie.Else2) → Holds (each 7 (count (start-7 c .args .file .now) obligation-part) (badObligation (start-7 c .args .file .now) (formulas (start-7 c .args .file .now))))
+hold-7 : (c : tie.Else2) → Holds (each 7 (count (start-7 c .args .file .now) obligation-part) (badObligation (start-7 c .args .file .now) (formulas (start-7 c .args .file .now)) (rowsIn (logOf (start-7 c .args .file .now)))))
 unfolding badEntry
 hold-7 c = lowest-holds 7 _ (c .before .before .first-bad2 .ensures) (omega (arith, c .if2 .left, c .before .count-of2 .ensures .0))
 

@@ -6,11 +6,11 @@ use Rattle.case_parts.proofs.layout.bad_length.Tie as tie
 
 returns : tie.Need-returns
 unfolding badLength
-returns c = rw (lt-ltb _ 36 (c .if1 .taken))
+returns c = rw (lt-ltb _ 38 (c .if1 .taken))
 
 returns-2 : tie.Need-returns-2
 unfolding badLength
-returns-2 c = rw (le-ltb _ 36 (c .if1 .left))
+returns-2 c = rw (le-ltb _ 38 (c .if1 .left))
 
 pub bad-length-spec : {M : Type 1} → statement M
 bad-length-spec = tie.close (tie.spec returns returns-2)

@@ -42,7 +42,7 @@ returns-8 c = rw (c .match .keys8)
 
 returns-9 : tie.Need-returns-9
 unfolding recordBytes
-returns-9 c = sym (List·getD-eq-default (rowBytes ∷ 6 ∷ 2 ∷ 2 ∷ 4 ∷ 4 ∷ 10 ∷ 2 ∷ []) 1 (past _ 8 (c .before .args .p) (c .match .rest)))
+returns-9 c = sym (List·getD-eq-default (rowBytes ∷ 6 ∷ 2 ∷ 2 ∷ 8 ∷ 4 ∷ 10 ∷ 2 ∷ []) 1 (past _ 8 (c .before .args .p) (c .match .rest)))
 
 pub record-bytes-spec : {M : Type 1} → statement M
 record-bytes-spec = tie.close (tie.spec returns returns-2 returns-3 returns-4 returns-5 returns-6 returns-7 returns-8 returns-9)

@@ -3,7 +3,7 @@ use borrow.Author.Needs.{needs}
 use mathlib.Core.Path.{_∙_}
 use native.Mathlib.Omega.{arith}
 use Rattle.definition.specs.11-Layout.{recordBytes, field}
-use Rattle.definition.specs.15-Records.{obligationMark, obligationAction}
+use Rattle.definition.specs.15-Records.{obligationMark, obligationAction, obligationDue, obligationRow}
 use Rattle.case_parts.proofs.records.obligation_at.Statement.{statement}
 use Rattle.case_parts.proofs.records.obligation_at.Tie as tie
 
@@ -18,14 +18,24 @@ read-word-requires-2 : tie.Need-read-word-requires-2
 unfolding recordBytes
 read-word-requires-2 c κs = omega (arith, c .before .record-in .ensures .long)
 
+read-word-requires-3 : tie.Need-read-word-requires-3
+unfolding recordBytes
+read-word-requires-3 c κs = omega (arith, c .before .before .record-in .ensures .long)
+
+read-word-requires-4 : tie.Need-read-word-requires-4
+unfolding recordBytes
+read-word-requires-4 c κs = omega (arith, c .before .before .before .record-in .ensures .long)
+
 returns : tie.Need-returns
-unfolding recordBytes field obligationMark obligationAction
+unfolding recordBytes field obligationMark obligationAction obligationDue obligationRow
 returns c =
-    let r = c .before .before .record-in .ensures in
+    let r = c .before .before .before .before .record-in .ensures in
     record {
-      mark = c .before .read-word .ensures ∙ r .field 0 (omega arith);
-      action = c .read-word2 .ensures ∙ r .field 2 (omega arith);
+      mark = c .before .before .before .read-word .ensures ∙ r .field 0 (omega arith);
+      action = c .before .before .read-word2 .ensures ∙ r .field 2 (omega arith);
+      due = c .before .read-word3 .ensures ∙ r .field 4 (omega arith);
+      row = c .read-word4 .ensures ∙ r .field 6 (omega arith);
     }
 
 pub obligation-at-spec : {M : Type 1} → statement M
-obligation-at-spec = tie.close (tie.spec record-in-requires read-word-requires read-word-requires-2 returns)
+obligation-at-spec = tie.close (tie.spec record-in-requires read-word-requires read-word-requires-2 read-word-requires-3 read-word-requires-4 returns)

@@ -1,4 +1,4 @@
--- `check_admitted` meets its contract: checks 10 and 11, and then the steps. Assumes nothing.
+-- `check_admitted` meets its contract: checks 10 and 11, and then the duties alone or the steps. Assumes nothing.
 use borrow.Author.Needs.{needs}
 use mathlib.Core.Path.{sym, ap, _∙_}
 use native.Mathlib.Omega.{arith}
@@ -20,11 +20,15 @@ enum-told c = search needs
 count-of-requires : tie.Need-count-of-requires
 count-of-requires c κs = search needs
 
+check-owing-nothing-requires : tie.Need-check-owing-nothing-requires
+check-owing-nothing-requires c κs = search needs
+
 returns : tie.Need-returns
 unfolding failureMeant caseOf
 returns c =
-    nothing-owed-reported _ _ (sym (ap failureMeant (c .before .before .enum-told .given .1)) ∙ c .before .before .before .before .check-owing .ensures)
-    (omega (arith, c .before .count-of .ensures .0, c .if1 .taken))
+    let k = c .before in
+    nothing-owed-reported _ _ (sym (ap failureMeant (k .before .before .enum-told .given .1)) ∙ k .before .before .before .before .check-owing .ensures)
+    (omega (arith, k .before .count-of .ensures .0, k .if1 .taken)) (c .check-owing-nothing .ensures _)
 
 check-steps-requires : tie.Need-check-steps-requires
 check-steps-requires c κs = search needs
@@ -44,4 +48,4 @@ returns-3 c =
     (omega (arith, k .count-of .ensures .0, c .before .before .before .before .if1 .left)) _ _ (c .before .before .check-steps .ensures)
 
 pub check-admitted-spec : {M : Type 1} → statement M
-check-admitted-spec = tie.close (tie.spec check-owing-requires enum-known-owing enum-told count-of-requires returns check-steps-requires returns-2 same-length returns-3)
+check-admitted-spec = tie.close (tie.spec check-owing-requires enum-known-owing enum-told count-of-requires check-owing-nothing-requires returns check-steps-requires returns-2 same-length returns-3)

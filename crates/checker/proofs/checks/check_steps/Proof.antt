@@ -52,7 +52,7 @@ unfolding failureMeant
 conclude-requires c κs =
     let r = c .before .before .before .before .before .before in
     let pre = start r .pre in
-    ((pre .0 .lent, r .run-steps .ensures .tables), (pre .1, all-numbered (pre .0 .lent) (run-is r (c .before .before .before .before .enum-told .given .1))))
+    ((pre .0, r .run-steps .ensures .tables), (pre .1, all-numbered (pre .0 .lent) (run-is r (c .before .before .before .before .enum-told .given .1))))
 
 returns : tie.Need-returns
 unfolding failureMeant

@@ -2,8 +2,8 @@
 use native.Mathlib.Omega.{arith}
 use Rattle.definition.specs.11-Layout.{agentOf}
 use Rattle.definition.proofs.PartLaws.{header-inside}
-use Rattle.case_parts.proofs.records.agent_of.Statement.{statement}
-use Rattle.case_parts.proofs.records.agent_of.Tie as tie
+use Rattle.case_parts.proofs.layout.agent_of.Statement.{statement}
+use Rattle.case_parts.proofs.layout.agent_of.Tie as tie
 
 read-word-requires : tie.Need-read-word-requires
 read-word-requires c κs = omega (arith, header-inside (c .before .args .file .now) (c .before .pre))

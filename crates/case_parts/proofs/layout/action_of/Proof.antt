@@ -2,8 +2,8 @@
 use native.Mathlib.Omega.{arith}
 use Rattle.definition.specs.11-Layout.{actionOf}
 use Rattle.definition.proofs.PartLaws.{header-inside}
-use Rattle.case_parts.proofs.records.action_of.Statement.{statement}
-use Rattle.case_parts.proofs.records.action_of.Tie as tie
+use Rattle.case_parts.proofs.layout.action_of.Statement.{statement}
+use Rattle.case_parts.proofs.layout.action_of.Tie as tie
 
 read-word-requires : tie.Need-read-word-requires
 read-word-requires c κs = omega (arith, header-inside (c .before .args .file .now) (c .before .pre))

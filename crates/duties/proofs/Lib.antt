@@ -1,0 +1,3 @@
+-- Laws of the duties' checks.
+pub mod DoneDuties
+pub mod NamedRows
