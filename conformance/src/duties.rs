@@ -2,7 +2,7 @@
 //! tell.
 
 use crate::builder::{CaseFile, Obligation};
-use crate::checker::{Verdict, ABSENT};
+use crate::checker::{Verdict, ABSENT, EACH_USE};
 use crate::desk::reading::read;
 
 /// Whether the agent sees the duty's action in the row that the duty names. No log has a row 65,535.
@@ -29,8 +29,8 @@ pub fn lowest_of_one_row(case: &CaseFile) -> Option<u16> {
     lowest(case, |number| {
         let duty = &case.obligations[number];
         let mut earlier = case.obligations[..number].iter();
-        let named = earlier.any(|other| other.mark == 1 && other.row == duty.row);
-        duty.mark == 1 && duty.row != ABSENT && named
+        let named = earlier.any(|other| other.mark == EACH_USE && other.row == duty.row);
+        duty.mark == EACH_USE && duty.row != ABSENT && named
     })
 }
 

@@ -1,7 +1,7 @@
 //! Random cases with rows that the agent does not see, and files that are alike to the agent.
 
 use crate::builder::{CaseFile, LogRow, Obligation};
-use crate::checker::{admit, owed, Verdict, ABSENT};
+use crate::checker::{admit, owed, Verdict, ABSENT, EACH_USE};
 use crate::damages::damage_case;
 use crate::justifications::{citing_hidden_rows, failing_duties, others, passing, slipping};
 use crate::random::Random;
@@ -114,7 +114,7 @@ fn naming_a_row(case: &CaseFile, random: &mut Random) -> Obligation {
     let done = row.action == action && row.observers.contains(&case.agent);
     let expired = random.one_in(if done { 2 } else { 5 });
     let due = if expired { case.hour.saturating_sub(1) } else { case.hour };
-    let taken = case.obligations.iter().any(|duty| duty.mark == 1 && duty.row == number);
+    let taken = case.obligations.iter().any(|duty| duty.mark == EACH_USE && duty.row == number);
     let mark = if random.one_in(if taken { 3 } else { 2 }) { 1 } else { 2 };
     Obligation { mark, action, due, row: number }
 }

@@ -13,7 +13,7 @@ pub(super) type Tree = Rc<Formula>;
 
 /// The marks of obligations and labels; a label of mark 0 is a policy.
 pub(super) const POLICY: u16 = 0;
-pub(super) const EACH_USE: u16 = 1;
+pub const EACH_USE: u16 = 1;
 pub(super) const ONCE: u16 = 2;
 
 /// A formula written out. The variants stand in the order of the kinds; `Obliges` is kind 6 with

@@ -25,7 +25,7 @@ use std::ops::Range;
 
 pub use case_file::{number_at, pair_at};
 pub use case_file::{ABSENT, ACTION_AT, AGENT_AT, HEADER_BYTES, HOUR_AT, MOST_BYTES, PARTS};
-pub use formulas::{admit_book, size_column};
+pub use formulas::{admit_book, size_column, EACH_USE};
 pub use index::build_index;
 pub use striking::strike_unseen;
 

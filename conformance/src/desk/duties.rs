@@ -1,14 +1,11 @@
 //! Obligations as people read them: their hours, the rows that they name, and whether they are done.
 
 use crate::builder::Obligation;
-use crate::checker::{Verdict, ABSENT};
+use crate::checker::{Verdict, ABSENT, EACH_USE};
 
 use super::notation::value;
 use super::records::marked;
 use super::show::{section, Section, View};
-
-/// The mark of a duty that is owed at each use.
-const EACH_USE: u16 = 1;
 
 impl View<'_> {
     pub(super) fn obligations(&self) -> Section {

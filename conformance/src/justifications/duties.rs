@@ -1,13 +1,14 @@
 //! The hours of a random case, and the rows that did what its obligations ask for.
 
 use super::*;
+use crate::checker::EACH_USE;
 
 impl Maker<'_> {
     /// An audit hour, and for each obligation a due hour and a row. What is expired was done by its
     /// row; any other obligation names any row or none. No two each-use ones name the same row.
     pub(super) fn set_hours(&mut self) -> Option<()> {
         if matches!(self.slip, Some(Slip::NotDone | Slip::OneRow)) {
-            let twin = Obligation::new(1, self.ground_action()?);
+            let twin = Obligation::new(EACH_USE, self.ground_action()?);
             self.case.obligations.extend([twin; 2]);
         }
         self.case.hour = match self.random.one_in(4) {
@@ -19,7 +20,7 @@ impl Maker<'_> {
         for number in 0..self.case.obligations.len() {
             let duty = Obligation { due: self.due_hour(), ..self.case.obligations[number] };
             let row = self.row_for(duty, &taken)?;
-            if duty.mark == 1 && row != ABSENT {
+            if duty.mark == EACH_USE && row != ABSENT {
                 taken.push(row);
             }
             self.case.obligations[number] = Obligation { row, ..duty };
@@ -29,7 +30,7 @@ impl Maker<'_> {
 
     /// By a slip, the row of the last each-use duty before it.
     fn row_for(&mut self, duty: Obligation, taken: &[u16]) -> Option<u16> {
-        let last = taken.last().filter(|_| duty.mark == 1 && self.slips(Slip::OneRow));
+        let last = taken.last().filter(|_| duty.mark == EACH_USE && self.slips(Slip::OneRow));
         match last {
             Some(row) => Some(*row),
             None if duty.due < self.case.hour => self.row_that_did(duty, taken),

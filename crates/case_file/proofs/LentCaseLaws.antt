@@ -1,14 +1,18 @@
--- What an admitted file that is lent to the code has: parts, and a book of formulas. Assumes nothing.
+-- What an admitted file that is lent to the code has: parts, a book of formulas, and what the table says of its rows. Assumes nothing.
 use Prim.Native.Nat.{ℕ, _≤_, _<_}
-use mathlib.Core.Path.{_≡_}
+use mathlib.Core.Path.{_≡_, sym, _∙_}
 use mathlib.Core.List.{List}
 use native.Mathlib.Omega.{arith}
+use lib.ListN.{getD}
 use Rattle.definition.specs.14-Book.{book, bookRows}
 use Rattle.definition.specs.11-Layout.{formula-part, log-part, obligation-part, label-part, step-part, premise-part, count, mostRecords}
 use Rattle.definition.specs.15-Records.{logOf, rowsIn, formulas}
+use Rattle.definition.specs.16-Views.{RowView}
+use Rattle.definition.specs.17-Case.{caseOf}
 use Rattle.definition.specs.18-Admission.{Parted}
 use Rattle.definition.proofs.PartLaws.{part-few, log-rows}
-use Rattle.case_file.specs.LentCase.{Lent, Numbered}
+use Rattle.case_file.specs.LentCase.{Lent, CaseLent, Numbered}
+use Rattle.case_file.specs.Seen.{codeView}
 use Rattle.case_file.proofs.AdmissionBranches.{rows-are}
 
 module _ {s b : List ℕ} (lent : Lent s b) where
@@ -25,6 +29,11 @@ module _ {s b : List ℕ} (lent : Lent s b) where
 
   pub numbered : {k : ℕ} → k < count s formula-part → Numbered b k
   numbered lt = record { book = lent .booked .book; below = rw lent-rows lt }
+
+-- One look at the table tells what the agent sees of a row.
+pub row-looked : (s b v : List ℕ) (k : ℕ) → CaseLent s b v → k < rowsIn (logOf s) → (r : RowView) → r ≡ codeView (formulas s) (getD v k 0) → caseOf s .row k ≡ r
+unfolding caseOf
+row-looked s b v k h lt r e = sym (e ∙ h .views k lt)
 
 -- The limits of the parts.
 module _ (s : List ℕ) (h : Parted s) where

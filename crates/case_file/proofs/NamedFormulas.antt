@@ -9,13 +9,13 @@ use borrow.Author.Tests.{eqb-true, ltb-true, not-false}
 use Rattle.definition.specs.01-Words.{absent}
 use Rattle.definition.specs.04-Checks.{accepts}
 use Rattle.definition.proofs.Tests.{and-true, or-false, or-true, not-both}
+use Rattle.definition.proofs.DutyNumbers.{good-duty, good-audit}
 use Rattle.definition.proofs.ViewLaws.{row-shows}
-use Rattle.definition.specs.12-Terms.{agents, classOf, isObject}
 use Rattle.definition.specs.13-Formulas.{Formula, no-formula, isPolicy, isAction, isPredicate, closed, ground}
 use Rattle.definition.specs.14-Book.{treeIn}
 use Rattle.formula_book.proofs.Laws.{number-inside}
 use Rattle.definition.specs.11-Layout.{formula-part, condition-part, obligation-part, label-part, part, count, agentOf, actionOf}
-use Rattle.definition.specs.15-Records.{logOf, rowsIn, formulas, rowAction, conditionFormula, obligationMark, obligationAction, obligationDue, obligationRow, labelMark, labelFormula, isGroundAction, isDuty, badAction, badLogRow, badCondition, badRowNamed, badObligation, badLabel, badAudit}
+use Rattle.definition.specs.15-Records.{logOf, rowsIn, formulas, rowAction, conditionFormula, obligationMark, obligationAction, obligationDue, obligationRow, labelMark, labelFormula, isGroundAction, isDuty, badAction, badLogRow, badCondition, badRowNamed, badObligation, badLabel}
 use Rattle.definition.specs.16-Views.{shows, rowView}
 use Rattle.definition.specs.18-Admission.{admission}
 use Rattle.definition.proofs.AdmissionLaws.{admitted-parted, admitted-logged, logged-rows, admitted-condition, admitted-obligation, admitted-label, admitted-audit}
@@ -32,12 +32,10 @@ module _ (s : List ℕ) (is : admission s ≡ accepts tt) where
   formula-named k test none here = rw (rows-are s (admitted-parted s is)) at (number-inside (part s formula-part) k test none here)
 
   pub obligation-named : (k : ℕ) → k < count s obligation-part → obligationAction s k < count s formula-part
-  unfolding badObligation isGroundAction isAction
+  unfolding isGroundAction isAction
   obligation-named k lt =
       let f = treeIn (formulas s) (obligationAction s k) in
-      let action = or-false _ _ (or-false _ _ (admitted-obligation s is k lt) .0) .0 in
-      let good = and-true (isDuty (obligationMark s k)) (isGroundAction f) (not-false _ action) .1 in
-      formula-named (obligationAction s k) isAction refl (and-true (isAction f) (ground f) good .0)
+      formula-named (obligationAction s k) isAction refl (and-true (isAction f) (ground f) (good-duty s k .0 (admitted-obligation s is k lt) .action) .0)
 
   pub row-named-good : (k : ℕ) → k < count s obligation-part → badRowNamed (rowsIn (logOf s)) (obligationRow s k) ≡ false
   unfolding badObligation
@@ -62,11 +60,10 @@ module _ (s : List ℕ) (is : admission s ≡ accepts tt) where
       (or-true (eqb (conditionFormula s k) absent) (isPredicate f && ground f) (not-false _ (admitted-condition s is k lt)))
 
   pub audit-named : actionOf s < count s formula-part
-  unfolding badAudit isGroundAction isAction
+  unfolding isGroundAction isAction
   audit-named =
       let f = treeIn (formulas s) (actionOf s) in
-      let good = and-true (isObject agents (classOf (agentOf s))) (isGroundAction f) (not-false _ (or-false _ _ (admitted-audit s is) .0)) .1 in
-      formula-named (actionOf s) isAction refl (and-true (isAction f) (ground f) good .0)
+      formula-named (actionOf s) isAction refl (and-true (isAction f) (ground f) (good-audit s .0 (admitted-audit s is) .action) .0)
 
   -- The number of an action that a row shows to the agent.
   pub shown-named : (k a : ℕ) → k < rowsIn (logOf s) → rowView (logOf s) (agentOf s) (formulas s) k ≡ shows (treeIn (formulas s) a) → a < count s formula-part

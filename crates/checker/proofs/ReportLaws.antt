@@ -31,7 +31,7 @@ use Rattle.case_file.specs.LentCase.{Lent, CaseLent}
 use Rattle.case_parts.specs.ShapedSteps.{EarlierNumbered}
 use Rattle.checker.proofs.StepRun.{all-accepted}
 use Rattle.checker.specs.Meanings.{verdictMeant}
-use Rattle.checker.specs.Reports.{listing, concluding, proof, nothing, justifying, Reported}
+use Rattle.checker.specs.Reports.{listing, concluding, proof, owingNothing, justifying, Reported}
 use Rattle.checker.specs.StepRuns.{afterRun}
 use Rattle.checker.specs.declared.verdict.Verdict.{Verdict}
 use Rattle.checker.specs.declared.verdict.Verdict.the-variants.{Passed, NoneOwed, Refused}
@@ -76,12 +76,12 @@ module _ (c : Case) (s : State) (room : List ℕ) where
 
 -- The duties, where nothing is owed and there are no steps: one of their checks fails, or both hold.
 module _ (c : Case) (room : List ℕ) where
-  pub duties-refused : (n p : ℕ) → refuses n p ≡ inOrder (dutyChecks c) → Reported (nothing c) room (Refused n p) room
-  unfolding nothing _>>_
-  duties-refused n p e = refusal-reported (nothing c) room n p (rw (← e))
+  pub duties-refused : (n p : ℕ) → refuses n p ≡ inOrder (dutyChecks c) → Reported (owingNothing c) room (Refused n p) room
+  unfolding owingNothing _>>_
+  duties-refused n p e = refusal-reported (owingNothing c) room n p (rw (← e))
 
-  pub none-owed-reported : accepts tt ≡ inOrder (dutyChecks c) → Reported (nothing c) room NoneOwed room
-  unfolding nothing report verdictMeant _>>_
+  pub none-owed-reported : accepts tt ≡ inOrder (dutyChecks c) → Reported (owingNothing c) room NoneOwed room
+  unfolding owingNothing report verdictMeant _>>_
   none-owed-reported e = record { verdict = rw (← e); room-is = rw (← e) }
 
 -- The steps, and what follows them.
@@ -120,15 +120,15 @@ module _ (c : Case) (room : List ℕ) where
     unfolding caseChecks
     passed = skip-before (owingChecks c) (checksIfOwed (owes c) c (length room)) holds
 
-    none-reported : owes c ≡ none → {r : Verdict} → Reported (nothing c) room r room → Reported (justifying c (length room)) room r room
-    unfolding justifying nothing checksIfOwed found foundIfOwed
+    none-reported : owes c ≡ none → {r : Verdict} → Reported (owingNothing c) room r room → Reported (justifying c (length room)) room r room
+    unfolding justifying owingNothing checksIfOwed found foundIfOwed
     none-reported e = reported-as (rw (passed, e))
 
     some-reported : (f : Formula) → owes c ≡ some f → (r : Verdict) (after : List ℕ) → Reported (proof c (length room)) room r after → Reported (justifying c (length room)) room r after
     unfolding justifying proof checksIfOwed found foundIfOwed
     some-reported f e r after = reported-as (rw (passed, e))
 
-    pub nothing-owed-reported : c .steps ≡ 0 → {r : Verdict} → Reported (nothing c) room r room → Reported (justifying c (length room)) room r room
+    pub nothing-owed-reported : c .steps ≡ 0 → {r : Verdict} → Reported (owingNothing c) room r room → Reported (justifying c (length room)) room r room
     nothing-owed-reported z h = none-reported (none-owed-of c holds z) h
 
     pub steps-reported : 0 < c .steps → (r : Verdict) (after : List ℕ) → Reported (proof c (length room)) room r after → Reported (justifying c (length room)) room r after

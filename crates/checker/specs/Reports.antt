@@ -29,8 +29,8 @@ proof c room = do
   accepts (justified (dischargedList c (finalState c)) (citedList c (finalState c)))
 
 -- Where nothing is owed and there are no steps: the checks of the duties.
-unfoldable pub nothing : Case → Checked Finding
-nothing c = do
+unfoldable pub owingNothing : Case → Checked Finding
+owingNothing c = do
   inOrder (dutyChecks c)
   accepts nothing-owed
 

@@ -25,7 +25,7 @@ ghost use Rattle.definition.specs.45-Promises.{Answered};
 ghost use Rattle.words.specs.Meanings.{failureMeant};
 ghost use Rattle.case_file.specs.LentCase.{Lent, CaseLent};
 ghost use Rattle.checker.specs.Meanings.{verdictMeant};
-ghost use Rattle.checker.specs.Reports.{proof, nothing, justifying, Reported};
+ghost use Rattle.checker.specs.Reports.{proof, owingNothing, justifying, Reported};
 
 // The checks of the steps of a case that has some, and those after them.
 fn check_steps(file: &[u8], book: &[u8], views: &[u16; 1024], room: &mut [u16]) -> Verdict
@@ -69,7 +69,7 @@ fn check_owing(file: &[u8], book: &[u8]) -> Failure
 // Where nothing is owed and there are no steps: checks 31 and 32, and then "none owed". The room has no part in it.
 fn check_owing_nothing(file: &[u8], book: &[u8], views: &[u16; 1024]) -> Verdict
     requires { ⌜ CaseLent (now file) (now book) (now views) ⌝ }
-    ensures { λ r. ⌜ ((room : List ℕ) → Reported (nothing (caseOf (now (file .entry)))) room r room) ⌝ }
+    ensures { λ r. ⌜ ((room : List ℕ) → Reported (owingNothing (caseOf (now (file .entry)))) room r room) ⌝ }
 {
     let duties = check_duties(file, book, views);
     match duties {

@@ -75,7 +75,7 @@ refused-record s n p none-there = (
 
 -- What the tests of checks 7 and 9 say.
 module _ (s : List ℕ) where
-  good-duty : (o : ℕ) → (badObligation s (formulas s) (rowsIn (logOf s)) o ≡ false) ↔ GoodDuty s o
+  pub good-duty : (o : ℕ) → (badObligation s (formulas s) (rowsIn (logOf s)) o ≡ false) ↔ GoodDuty s o
   unfolding badObligation isDuty badRowNamed
   good-duty o =
       let m = obligationMark s o in
@@ -89,7 +89,7 @@ module _ (s : List ℕ) where
         λ g. t .1 (((g .mark, g .action), g .due), g .row),
       )
 
-  good-audit : (badAudit s (formulas s) ≡ false) ↔ GoodAudit s
+  pub good-audit : (badAudit s (formulas s) ≡ false) ↔ GoodAudit s
   unfolding badAudit
   good-audit =
       let agent : (isObject agents (classOf (agentOf s)) ≡ true) ↔ (agentOf s < agentsEnd) = rw (agent-is (agentOf s)) (below-is (agentOf s) agentsEnd) in

@@ -1,14 +1,14 @@
 -- What the walks over the numbers from i to i + left - 1 find, in terms of the test p at each of them. Assumes nothing.
 use Prim.Native.Nat.{ℕ, zero, suc, _+_, _≤_, _<_}
 use mathlib.Core.Path.{_≡_, refl, sym, ap, _∙_}
-use mathlib.Core.Bool.{Bool, true, false, false≢true}
+use mathlib.Core.Bool.{Bool, true, false, _||_, false≢true}
 use mathlib.Core.Logic.{_↔_, inl, inr, ⊎-elim}
 use native.Mathlib.Nat.{eq-or-lt-of-le}
 use native.Mathlib.Omega.{arith}
 use lib.ListN.{length, getD}
 use lib.Dec.{ltb}
 use borrow.Author.Tests.{ltb-true, lt-ltb, le-ltb}
-use Rattle.definition.proofs.Tests.{and-true, and-intro, or-true, or-intro-left, or-intro-right, not-both, never-true}
+use Rattle.definition.proofs.Tests.{and-true, and-intro, or-true, or-intro-left, or-intro-right, not-both, never-true, or-is, one-answer, itself-is}
 use Rattle.definition.specs.02-Ranges.{any, all, lowest, members, listed}
 use Rattle.definition.specs.03-Lists.{Among, Ascending}
 
@@ -151,6 +151,20 @@ unfolding any
 any-agrees p q zero i h = refl
 any-agrees p q (suc left) i h =
     rw (h i (omega arith) (omega arith), any-agrees p q left (i + 1) (λ j from to. h j (omega arith) (omega arith)))
+
+-- A test of one number more.
+pub any-last : (p : ℕ → Bool) (n : ℕ) → any p (n + 1) 0 ≡ any p n 0 || p n
+any-last p n =
+    sym
+    (one-answer (any p n 0 || p n) (or-is (itself-is (any p n 0)) (itself-is (p n))) (
+      λ e.
+          let w = any-true p (n + 1) 0 e in
+          let le : w .0 ≤ n = omega (arith, w .2) in
+          ⊎-elim (λ q. inr (rw q at (w .3))) (λ lt. inl (any-some p n 0 (w .0) (omega arith) (omega arith) (w .3))) (eq-or-lt-of-le le),
+      ⊎-elim
+          (λ e. let w = any-true p n 0 e in any-some p (n + 1) 0 (w .0) (omega arith) (omega (arith, w .2)) (w .3))
+          (λ e. any-some p (n + 1) 0 n (omega arith) (omega arith) e),
+    ))
 
 -- A proof of P at each of the numbers, as a tuple; and the one at a number.
 abbrev pub Each : (ℕ → Type 0) → (left i : ℕ) → Type 0

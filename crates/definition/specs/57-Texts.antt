@@ -45,7 +45,7 @@ pub admissions-numbered : map runNumbers (accepts tt ∷ refuses 5 1 ∷ []) ≡
 unfolding runNumbers
 admissions-numbered = refl
 
--- "At most" one byte more than "the largest file has", and "a room of 1,088 entries": one for each obligation and each row that a file can have.
+-- One byte more than the largest file has, and "a room of 1,088 entries": one for each obligation and each row that a file can have.
 pub most-read : mostRead ≡ 47911
 most-read = refl
 

@@ -1,17 +1,13 @@
 -- The table of the rows named: none at first, and with one obligation more. Assumes nothing.
-use Prim.Native.Nat.{ℕ, _+_, _≤_, _<_}
-use mathlib.Core.Bool.{Bool, true, false, _&&_, _||_}
+use Prim.Native.Nat.{ℕ, _+_, _<_}
+use mathlib.Core.Bool.{Bool, true, false, _||_, and-false, or-true, or-false}
 use mathlib.Core.Path.{_≡_, refl, sym, ap, _∙_}
-use mathlib.Core.Logic.{⊎-elim, inl, inr}
 use mathlib.Core.Option.{some}
 use mathlib.Core.List.{List}
-use native.Mathlib.Nat.{eq-or-lt-of-le}
-use native.Mathlib.Omega.{arith}
 use lib.ListN.{length, length-set, length-replicate, set, replicate}
 use lib.Dec.{eqb}
 use borrow.Author.Tests.{eq-eqb, ne-eqb, eqb-true, eqb-false}
-use Rattle.definition.proofs.RangeLaws.{any-true, any-some}
-use Rattle.definition.proofs.Tests.{one-answer, or-is}
+use Rattle.definition.proofs.RangeLaws.{any-last}
 use Rattle.definition.specs.01-Words.{absent}
 use Rattle.definition.specs.02-Ranges.{any, update}
 use Rattle.definition.specs.13-Formulas.{each-use}
@@ -22,32 +18,6 @@ use Rattle.tables.proofs.Assignments.{marks-set, getD-replicated}
 use Rattle.tables.specs.Sets.{marks}
 use Rattle.duties.specs.NamedRows.{NamedBefore}
 
--- A test of one number more.
-any-more : (p : ℕ → Bool) (n : ℕ) → any p (n + 1) 0 ≡ any p n 0 || p n
-any-more p n =
-    sym
-    (one-answer (any p n 0 || p n) (or-is (λ e. e, λ e. e) (λ e. e, λ e. e)) (
-      λ e.
-          let w = any-true p (n + 1) 0 e in
-          let le : w .0 ≤ n = omega (arith, w .2) in
-          ⊎-elim (λ q. inr (rw q at (w .3))) (λ lt. inl (any-some p n 0 (w .0) (omega arith) (omega arith) (w .3))) (eq-or-lt-of-le le),
-      ⊎-elim
-          (λ e. let w = any-true p n 0 e in any-some p (n + 1) 0 (w .0) (omega arith) (omega (arith, w .2)) (w .3))
-          (λ e. any-some p (n + 1) 0 n (omega arith) (omega arith) e),
-    ))
-
-or-none : (a : Bool) → a ≡ a || false
-or-none true = refl
-or-none false = refl
-
-and-none : (a : Bool) → false ≡ a && false
-and-none true = refl
-and-none false = refl
-
-or-one : (a : Bool) → true ≡ a || true
-or-one true = refl
-or-one false = refl
-
 -- No row is named at first.
 pub none-named : (c : Case) → NamedBefore c 0 (replicate 1024 false)
 unfolding marks any
@@ -56,11 +26,11 @@ none-named c = record { long = length-replicate 1024 false; flag = λ k. getD-re
 -- With one obligation more.
 module _ {c : Case} {o : ℕ} {t : List Bool} (h : NamedBefore c o t) where
   flags-more : {u : List Bool} → length u ≡ length t → ((k : ℕ) → marks u k ≡ marks t k || usesUp c k o) → NamedBefore c (o + 1) u
-  flags-more e f = record { long = e ∙ h .long; flag = λ k. f k ∙ ap (λ a. a || usesUp c k o) (h .flag k) ∙ sym (any-more (usesUp c k) o) }
+  flags-more e f = record { long = e ∙ h .long; flag = λ k. f k ∙ ap (λ a. a || usesUp c k o) (h .flag k) ∙ sym (any-last (usesUp c k) o) }
 
   -- It uses up no row; its row is named already; its row is marked.
   pub uses-none : ((k : ℕ) → usesUp c k o ≡ false) → NamedBefore c (o + 1) t
-  uses-none up = flags-more refl (λ k. rw (up k) (or-none (marks t k)))
+  uses-none up = flags-more refl (λ k. rw (up k) (sym (or-false (marks t k))))
 
   module _ (r : ℕ) (mark : c .obligation o .mark ≡ each-use) (names : c .obligation o .row ≡ some r) where
     own-row : (k : ℕ) → usesUp c k o ≡ eqb r k
@@ -75,16 +45,16 @@ module _ {c : Case} {o : ℕ} {t : List Bool} (h : NamedBefore c o t) where
     row-there e = flags-more refl (λ k. rw (own-row k) (go k (eqb r k) refl))
       where
         go : (k : ℕ) (b : Bool) → eqb r k ≡ b → marks t k ≡ marks t k || b
-        go k true q = let is : marks t k ≡ true = rw (eqb-true r k q) at e in is ∙ or-one (marks t k)
-        go k false q = or-none (marks t k)
+        go k true q = let is : marks t k ≡ true = rw (eqb-true r k q) at e in is ∙ sym (or-true (marks t k))
+        go k false q = sym (or-false (marks t k))
 
     pub row-marked : r < length t → NamedBefore c (o + 1) (set t r true)
     unfolding update
     row-marked lt = flags-more (length-set t r true) (λ k. rw (own-row k, marks-set t r true lt) (go k (eqb r k) refl))
       where
         go : (k : ℕ) (b : Bool) → eqb r k ≡ b → update (marks t) r true k ≡ marks t k || b
-        go k true q = rw (eq-eqb k r (sym (eqb-true r k q))) (or-one (marks t k))
-        go k false q = rw (ne-eqb k r (λ e. eqb-false r k q (sym e))) (or-none (marks t k))
+        go k true q = rw (eq-eqb k r (sym (eqb-true r k q))) (sym (or-true (marks t k)))
+        go k false q = rw (ne-eqb k r (λ e. eqb-false r k q (sym e))) (sym (or-false (marks t k)))
 
 -- The obligation as the code reads it: of another mark, without a row, or with this one.
 module _ (s : List ℕ) (o : ℕ) {t : List Bool} (h : NamedBefore (caseOf s) o t) where
@@ -94,7 +64,7 @@ module _ (s : List ℕ) (o : ℕ) {t : List Bool} (h : NamedBefore (caseOf s) o 
 
   pub no-row : {n : ℕ} → n ≡ obligationRow s o → n ≡ absent → (false ≡ namesAgain (caseOf s) o) × NamedBefore (caseOf s) (o + 1) t
   unfolding caseOf rowNamed usesUp isRow namesAgain usedUpBefore
-  no-row e gone = let is = eq-eqb (obligationRow s o) absent (sym e ∙ gone) in (rw is (and-none (eqb (obligationMark s o) each-use)), uses-none h (λ k. rw is (sym (and-none (eqb (obligationMark s o) each-use)))))
+  no-row e gone = let is = eq-eqb (obligationRow s o) absent (sym e ∙ gone) in (rw is (sym (and-false (eqb (obligationMark s o) each-use))), uses-none h (λ k. rw is (and-false (eqb (obligationMark s o) each-use))))
 
   module _ {m n : ℕ} (mark : m ≡ obligationMark s o) (each : m ≡ each-use) (row : n ≡ obligationRow s o) (there : n ≡ absent → ⊥) where
     names : caseOf s .obligation o .row ≡ some n

@@ -1,10 +1,9 @@
 -- Checks 14 to 16 of what a step cites, by what the rule's argument names. Assumes nothing.
 use Prim.Native.Nat.{ℕ, _<_}
-use mathlib.Core.Path.{_≡_, refl, sym, _∙_}
+use mathlib.Core.Path.{_≡_, refl, sym}
 use mathlib.Core.Bool.{Bool, true, false, cond, not, _||_, _&&_}
 use mathlib.Core.List.{List, [], _∷_}
 use mathlib.Core.Option.{none, some}
-use lib.ListN.{getD}
 use lib.Dec.{eqb, ltb}
 use borrow.Author.Tests.{ltb-true, not-false}
 use Rattle.definition.proofs.CheckLaws.{by-number, all-hold, hold-all, in-order-append, skip-behind}
@@ -12,13 +11,10 @@ use Rattle.definition.specs.01-Words.{absent}
 use Rattle.definition.specs.04-Checks.{accepts, _>>_, single, check, try, inOrder}
 use Rattle.definition.specs.13-Formulas.{Formula}
 use Rattle.definition.specs.14-Book.{treeIn}
-use Rattle.definition.specs.15-Records.{logOf, rowsIn, formulas, conditionFormula}
-use Rattle.definition.specs.16-Views.{RowView}
+use Rattle.definition.specs.15-Records.{formulas, conditionFormula}
 use Rattle.definition.specs.17-Case.{Case, caseOf, reading}
 use Rattle.definition.specs.21-Rules.{Names, nothing, a-label, a-condition, a-row, an-obligation, a-term}
 use Rattle.definition.specs.22-Steps.{citesAbsent, citesNothing, citesHidden, citesStruck, isARow, isNone, isHidden, isStruck, citationChecks}
-use Rattle.case_file.specs.Seen.{codeView}
-use Rattle.case_file.specs.LentCase.{CaseLent}
 use Rattle.case_parts.specs.ShapedSteps.{CitedEntry}
 use Rattle.step_shape.specs.EntryChecks.{entryChecks}
 
@@ -79,8 +75,3 @@ no-reading s a = go (eqb (conditionFormula s a) absent) (treeIn (formulas s) (co
     go : (b : Bool) (f : Formula) → isNone (cond b none (some f)) ≡ b
     go true f = refl
     go false f = refl
-
--- One look at the table tells what the agent sees of a row.
-pub row-looked : (s b v : List ℕ) (a : ℕ) → CaseLent s b v → a < rowsIn (logOf s) → (r : RowView) → r ≡ codeView (formulas s) (getD v a 0) → caseOf s .row a ≡ r
-unfolding caseOf
-row-looked s b v a h lt r e = sym (e ∙ h .views a lt)

@@ -9,10 +9,10 @@ use Rattle.definition.specs.15-Records.{logOf, rowsIn, formulas}
 use Rattle.definition.specs.17-Case.{caseOf}
 use Rattle.definition.specs.22-Steps.{isHidden, isStruck}
 use Rattle.case_file.specs.Meanings.{viewMeant}
-use Rattle.case_file.proofs.LentCaseLaws.{parted, rows-few}
+use Rattle.case_file.proofs.LentCaseLaws.{parted, rows-few, row-looked}
 use Rattle.words.specs.Meanings.{failureMeant}
 use Rattle.step_shape.specs.EntryChecks.{entryChecks}
-use Rattle.step_shape.proofs.CitationLaws.{entry-there, row-checks, row-looked}
+use Rattle.step_shape.proofs.CitationLaws.{entry-there, row-checks}
 use Rattle.step_shape.proofs.citations.check_row.Statement.{statement}
 use Rattle.step_shape.proofs.citations.check_row.Tie as tie
 
