@@ -53,5 +53,3 @@ pub mod IndexPromises
 pub mod DutyPromises
 pub mod DutyNumbers
 pub mod DemandsProved
-pub mod DemandInstances
-pub mod DutyInstances

@@ -1,4 +1,4 @@
--- Request 5 on examples, computed from the definition: indexes built, and checks through an index; two lists, a claim for each. proofs/DemandInstances has two alike files with different indexes.
+-- Request 5 on examples, computed from the definition: indexes built, and checks through an index; two lists, a claim for each. proofs/DemandInstances of the crate `cases` has two alike files with different indexes.
 use Prim.Native.Nat.{ℕ}
 use mathlib.Core.List.{List, [], _∷_, _++_, map}
 use mathlib.Core.Path.{_≡_, refl}

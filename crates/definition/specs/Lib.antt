@@ -39,5 +39,4 @@ pub mod 57-Texts
 pub mod 58-Table
 pub mod 59-Sizes
 pub mod 60-Indexes
-pub mod 61-DueHours
 pub mod 62-StepFaults

@@ -10,47 +10,48 @@ use lib.ListN.{length, getD, take}
 use lib.Seq.{take-all}
 use lib.Dec.{ltb}
 use borrow.Author.Tests.{ltb-true}
 use Rattle.definition.proofs.AdmissionLaws.{admitted-parted}
 use Rattle.definition.proofs.CheckLaws.{all-hold}
 use Rattle.definition.proofs.CitedLists.{pass-lists}
 use Rattle.definition.proofs.IndexHolds.{index-holds}
 use Rattle.definition.proofs.IndexPromises.{building-refused, index-built, through-exactly, through-as-built, built-is-enough, through-shows-no-row}
 use Rattle.definition.proofs.OrderedLogs.{index-entries}
 use Rattle.definition.proofs.NoneOwed.{none-owed-exactly}
 use Rattle.definition.proofs.PassesExactly.{passes-exactly, refused-for-room}
 use Rattle.definition.proofs.RangeLaws.{all-true}
 use Rattle.definition.proofs.Refining.{same-steps, holds-without-log}
 use Rattle.definition.proofs.RefiningPlaces.{tells-refining}
 use Rattle.definition.proofs.RefusalTable.{refused-by-table}
 use Rattle.definition.proofs.SizeColumns.{tells-sizes, admitted-told, size-is-rows, sizes-fit}
 use Rattle.definition.proofs.StrayPlaces.{tells-stray, place-by-book}
 use Rattle.definition.proofs.StruckFile.{strikes-unseen}
 use Rattle.definition.specs.01-Words.{absent}
 use Rattle.definition.specs.02-Ranges.{all}
 use Rattle.definition.specs.03-Lists.{joinAll}
 use Rattle.definition.specs.04-Checks.{single, each, Holds, Fails, AllHold, here, later, accepts, refuses, inOrder}
 use Rattle.definition.specs.13-Formulas.{implies, each-use, once, nodes}
 use Rattle.definition.specs.14-Book.{bookRows, treeIn, book, sizeColumn, rowsOf}
 use Rattle.definition.specs.15-Records.{Log, logOf, stepFormula}
 use Rattle.definition.specs.17-Case.{caseOf}
 use Rattle.definition.specs.18-Admission.{Parted, checksToLog, admissionChecks, admission}
 use Rattle.definition.specs.19-Rewriting.{strike}
 use Rattle.definition.specs.22-Steps.{usedIn, premisesOf, misshapen, badPremises, stepChecks, stateAt}
 use Rattle.definition.specs.31-Outcome.{lastStep, unusedStep, openLabel, owingChecks, finalState, refused, outcome}
 use Rattle.definition.specs.35-Index.{indexOf, building, outcomeThrough}
 use Rattle.definition.specs.42-Account.{DutiesKept}
 use Rattle.definition.specs.44-Demands.{StepsHold, InTable, in-step, in-end, OwesNothing, Passes, Justified, Needs, Lists, HeaderOfBytes}
 use Rattle.definition.specs.46-Requests.{StrayTold, RefiningTold, AccountOf, RefinesWithoutLog, SizeHeld, ColumnAfter}
 use Rattle.definition.specs.47-Indexed.{IsIndex, AsBuilt, FileIndexRoom}
 use Rattle.definition.specs.51-Files.{notDue, createsRow}
 use Rattle.definition.specs.52-Evaluation.{evaluated}
 use Rattle.definition.specs.53-Desk.{lent, grantWith, grant, visit, twice, built}
 use Rattle.definition.specs.55-HiddenRows.{twoRows, oneWay, otherWay, ways-alike, ways-made}
 use Rattle.definition.specs.56-SeenRows.{fourRows, rows-admitted}
 use Rattle.definition.specs.58-Table.{grantByte, grantAnd, laterPremise, supposedOwed, builtTable}
 use Rattle.definition.specs.59-Sizes.{lentColumn, doubled, withLarge, withRepeat, builtSizes}
 use Rattle.definition.specs.60-Indexes.{shared, sharedIndex, indexRoom, builtIndexes}
-use Rattle.definition.specs.62-StepFaults.{stray, line, reasoned, refiningBy, refining, tautologyAt, nested, builtSteps}
+use Rattle.definition.specs.62-StepFaults.{line, reasoned, refiningBy, refining, tautologyAt, nested}
+use Rattle.cases.specs.62-MoreStepFaults.{stray, builtMoreSteps}
 
 -- Demand 1: what a refusal by 2, 4, 13, 17, 21 and 23 says.
 pub part-told : InTable (grantByte 4 37) 3 2 0
@@ -79,59 +80,59 @@ short-room-told = refused-by-table grant [] 23 1 .0 refl
 
 -- Refusals by 27: the lowest of two rows, of which a walk from the left meets the other first; in two files with the same formulas, whose owner steps have the same formula and other premises.
 pub lowest-told : StrayTold (stray 5 (2 ∷ []) 14) 4
-unfolding builtSteps
+unfolding builtMoreSteps
 lowest-told = tells-stray (stray 5 (2 ∷ []) 14) lent 4 refl
 
 pub lowest-told-too : StrayTold (stray 5 (0 ∷ []) 14) 4
-unfolding builtSteps
+unfolding builtMoreSteps
 lowest-told-too = tells-stray (stray 5 (0 ∷ []) 14) lent 4 refl
 
 -- So they tell one row: the step refused can only be step 1, and its formula is 14.
 first-formula : (k : ℕ) → k < 2 → caseOf (stray 5 (2 ∷ []) 14) .step k .rule ≡ 5 → stepFormula (stray 5 (2 ∷ []) 14) k ≡ 14
-unfolding builtSteps
+unfolding builtMoreSteps
 first-formula zero lt r = absurd (omega (arith, let z : _≡_ {A = ℕ} 0 5 = r in z))
 first-formula (suc zero) lt r = refl
 first-formula (suc (suc k)) lt r = absurd (omega arith)
 
 second-formula : (k : ℕ) → k < 2 → caseOf (stray 5 (0 ∷ []) 14) .step k .rule ≡ 5 → stepFormula (stray 5 (0 ∷ []) 14) k ≡ 14
-unfolding builtSteps
+unfolding builtMoreSteps
 second-formula zero lt r = absurd (omega (arith, let z : _≡_ {A = ℕ} 0 5 = r in z))
 second-formula (suc zero) lt r = refl
 second-formula (suc (suc k)) lt r = absurd (omega arith)
 
 pub one-row-told : (p q : ℕ) → StrayTold (stray 5 (2 ∷ []) 14) p → StrayTold (stray 5 (0 ∷ []) 14) q → p ≡ q
-unfolding builtSteps
+unfolding builtMoreSteps
 one-row-told p q a b =
     place-by-book (stray 5 (2 ∷ []) 14) (stray 5 (0 ∷ []) 14) p q a b refl
     (first-formula (a .step) (a .at .there) (a .owner) ∙ sym (second-formula (b .step) (b .at .there) (b .owner)))
 
 -- A refusal by 28: at the outer of two steps, for a row far above.
 pub refining-told : RefiningTold (nested (line 2 1 0 [])) 9
-unfolding builtSteps
+unfolding builtMoreSteps
 refining-told = tells-refining (nested (line 2 1 0 [])) lent 9 refl
 
 -- What a step refines by holds without the log: a case that refines by a tautology passes, and step 4, the first premise of step 5, is an account in the file without log, readings and obligations.
 pub refines-by : RefinesWithoutLog (refining (tautologyAt 2)) 5
-unfolding builtSteps
+unfolding builtMoreSteps
 refines-by = holds-without-log (refining (tautologyAt 2)) lent (0, 1, refl) 5 (omega arith) refl
 
 abbrev bare : List ℕ
 bare = reasoned 7 [] [] [] [] (refiningBy (tautologyAt 2))
 
 full-parted : Parted (refining (tautologyAt 2))
-unfolding builtSteps
+unfolding builtMoreSteps
 full-parted = admitted-parted (refining (tautologyAt 2)) refl
 
 bare-parted : Parted bare
-unfolding builtSteps
+unfolding builtMoreSteps
 bare-parted = admitted-parted bare refl
 
 first-is : refines-by .refines .first ≡ 4
-unfolding builtSteps
+unfolding builtMoreSteps
 first-is = let e : 4 ∷ 1 ∷ [] ≡ refines-by .refines .first ∷ refines-by .refines .second ∷ [] = refines-by .refines .premises-are in cc
 
 pub holds-in-bare : AccountOf (caseOf bare) (refines-by .refines .first) (implies (refines-by .refines .from) (refines-by .refines .to)) (refines-by .steps)
-unfolding builtSteps
+unfolding builtMoreSteps
 holds-in-bare =
     refines-by .account bare (record { parted = bare-parted; agent = refl; formulas = refl; labels = refl })
     (same-steps (refining (tautologyAt 2)) bare full-parted bare-parted refl refl refl (refines-by .steps) (λ j m. omega (arith, refines-by .above j m, first-is)))

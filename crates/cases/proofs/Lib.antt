@@ -1,0 +1,3 @@
+-- Instances of the definition's statements.
+pub mod DemandInstances
+pub mod DutyInstances
