@@ -1,11 +1,19 @@
 /*
 ** The desk console: checks one case file and says the verdict in words, also
-** through an index by observer, and writes the index of a file's log.
+** through an index by observer; checks many files, up to 64 in one call, with a
+** line for each; and writes the index of a file's log.
 **
 ** usage: console [FILE]                  without FILE it reads standard input
+**        console FILE FILE...            a line for each file, and a count
+**        console --night LIST [FILES]    the same for files that lie in one
 **        console --index [FILE]          writes the index to standard output
 **        console --through INDEX [FILE]  checks through the index in that file
-** exit status: 0 passed, 1 none owed, 2 refused, 3 usage, reading or writing
+** exit status: 0 passed, 1 none owed, 2 refused, 3 usage, reading or writing;
+** of many files the highest
+**
+** A file of many that cannot be read is told on standard error, and the others
+** are checked. LIST has the offset and the length of each file in FILES, as
+** justification.h tells it; where 33 refuses it, no file is checked.
 **
 ** An index is 16-bit numbers, low byte first. The status is 0 where it is
 ** written; where it is refused, the words go to standard error and nothing to
@@ -16,6 +24,7 @@
 #include "justification.h"
 
 #include <stdio.h>
+#include <stdlib.h>
 #include <string.h>
 
 enum { EXIT_TROUBLE = 3 };
@@ -25,6 +34,9 @@ enum { MOST_READ = JUSTIFICATION_LARGEST_FILE + 1 };
 
 /* The bytes of the longest index. */
 enum { INDEX_BYTES = 2 * JUSTIFICATION_INDEX };
+
+/* The bytes of a pair of a night's list, and one of a 65th, to be refused. */
+enum { PAIR_BYTES = 8, LIST_BYTES = PAIR_BYTES * JUSTIFICATION_NIGHT + 1 };
 
 /* Where the header has the offset of the steps, and the bytes of a step. */
 enum { STEPS_OFFSET = 28, STEP_BYTES = 10 };
@@ -64,11 +76,30 @@ static const struct step_fault step_faults[] = {
 #undef STEP_FAULT
 };
 
-/* How the console is called. A name that is not given is NULL. */
+/*
+** How the console is called. A name that is not given is NULL; files are the
+** names from the first on, and a NULL behind them.
+*/
 struct call {
     int builds_index;
     const char *index;
-    const char *file;
+    const char *list;
+    char **files;
+};
+
+/* Files for one call, end to end, with the list of where they are. */
+struct night {
+    uint8_t files[JUSTIFICATION_NIGHT * MOST_READ];
+    uint8_t list[LIST_BYTES];
+    const char *names[JUSTIFICATION_NIGHT];
+    size_t bytes;
+    size_t count;
+};
+
+/* How many files have a verdict of each kind, and how many cannot be read. */
+struct tally {
+    unsigned long kinds[JUSTIFICATION_REFUSED + 1];
+    unsigned long unread;
 };
 
 /* Takes the next argument if it is this option. */
@@ -91,13 +122,20 @@ static const char *take_name(char ***arguments)
 /* Takes all arguments; 0 if they are not as the usage says. */
 static int take_call(char **arguments, struct call *call)
 {
-    int through;
+    int through, night, names = 0;
 
     call->builds_index = take_option(&arguments, "--index");
     through = !call->builds_index && take_option(&arguments, "--through");
+    night = !call->builds_index && !through &&
+            take_option(&arguments, "--night");
     call->index = through ? take_name(&arguments) : NULL;
-    call->file = take_name(&arguments);
-    return *arguments == NULL && (call->index != NULL || !through);
+    call->list = night ? take_name(&arguments) : NULL;
+    call->files = arguments;
+    while (take_name(&arguments) != NULL)
+        names++;
+    return *arguments == NULL && (call->index != NULL || !through) &&
+           (call->list != NULL || !night) &&
+           (names < 2 || !(call->builds_index || through || night));
 }
 
 /* Reads what is left of the stream, up to so many bytes; -1 if it cannot. */
@@ -122,6 +160,35 @@ static long read_file(const char *name, uint8_t *bytes, size_t most)
     if (stream != NULL && stream != stdin)
         fclose(stream);
     return count;
+}
+
+/*
+** Reads all of the file of this name, or of standard input, to memory of its
+** own; NULL and a complaint if it cannot.
+*/
+static uint8_t *read_all(const char *name, size_t *bytes)
+{
+    FILE *stream = name == NULL ? stdin : fopen(name, "rb");
+    size_t room = MOST_READ;
+    uint8_t *all = stream == NULL ? NULL : malloc(room), *longer = all;
+
+    *bytes = 0;
+    while (longer != NULL) {
+        all = longer;
+        *bytes += fread(all + *bytes, 1, room - *bytes, stream);
+        if (*bytes < room)
+            break;
+        room *= 2;
+        longer = realloc(all, room);
+    }
+    if (longer == NULL || ferror(stream)) {
+        perror(name == NULL ? "standard input" : name);
+        free(all);
+        all = NULL;
+    }
+    if (stream != NULL && stream != stdin)
+        fclose(stream);
+    return all;
 }
 
 /* The file's number at this byte; NO_NUMBER where the file has no two bytes. */
@@ -206,19 +273,26 @@ static const char *meaning_of(unsigned number, unsigned place,
     return refusal_of(number)->meaning;
 }
 
-static void print_refused(FILE *out, unsigned number, unsigned place,
-                          const uint8_t *file, size_t bytes)
+/* What is wrong, and where. */
+static void print_fault(FILE *out, unsigned number, unsigned place,
+                        const uint8_t *file, size_t bytes)
 {
     const char *counts = refusal_of(number)->counts;
     int has_place = counts[0] != '\0';
 
-    fprintf(out, "refused %u %u\n", number, place);
     if (has_place)
         fprintf(out, "%s %u", counts, place);
     if (number == JUSTIFICATION_FAULTY_PART && place < 8)
         fprintf(out, " (%s)", parts[place]);
     fprintf(out, "%s%s\n", has_place ? ": " : "",
             meaning_of(number, place, file, bytes));
+}
+
+static void print_refused(FILE *out, unsigned number, unsigned place,
+                          const uint8_t *file, size_t bytes)
+{
+    fprintf(out, "refused %u %u\n", number, place);
+    print_fault(out, number, place, file, bytes);
 }
 
 static void print_verdict(struct justification_verdict verdict,
@@ -236,6 +310,137 @@ static void print_verdict(struct justification_verdict verdict,
     default:
         print_refused(stdout, verdict.first, verdict.second, file, bytes);
     }
+}
+
+/* The verdict in one line, without the entries of the room. */
+static void print_line(struct justification_verdict verdict,
+                       const uint8_t *file, size_t bytes)
+{
+    unsigned first = verdict.first, second = verdict.second;
+
+    switch (verdict.kind) {
+    case JUSTIFICATION_PASSED:
+        printf("passed %u %u\n", first, second);
+        break;
+    case JUSTIFICATION_NONE_OWED:
+        puts("none owed");
+        break;
+    default:
+        printf("refused %u %u: ", first, second);
+        print_fault(stdout, first, second, file, bytes);
+    }
+}
+
+/* The 32-bit number at this byte of a list. */
+static uint32_t long_at(const uint8_t *list, size_t at)
+{
+    return (uint32_t)list[at] | (uint32_t)list[at + 1] << 8 |
+           (uint32_t)list[at + 2] << 16 | (uint32_t)list[at + 3] << 24;
+}
+
+static void put_long(uint8_t *list, size_t at, size_t number)
+{
+    int byte;
+
+    for (byte = 0; byte < 4; byte++)
+        list[at + (size_t)byte] = (uint8_t)(number >> 8 * byte);
+}
+
+/*
+** Checks a night's files, and prints a line for each, by its name or else by
+** its number. Where the list is refused, it says so, and gives that answer.
+*/
+static struct justification_verdict
+tell_files(const uint8_t *files, size_t bytes, const uint8_t *list,
+           size_t list_bytes, const char *const *names, struct tally *tally)
+{
+    static uint16_t room[JUSTIFICATION_NIGHT_ROOM];
+    struct justification_verdict verdicts[JUSTIFICATION_NIGHT], answer;
+    size_t pair;
+
+    answer = justification_night(files, bytes, list, list_bytes, verdicts, room,
+                                 JUSTIFICATION_NIGHT_ROOM);
+    if (answer.kind != JUSTIFICATION_CHECKED) {
+        print_refused(stdout, answer.first, answer.second, files, bytes);
+        return answer;
+    }
+    for (pair = 0; pair < answer.first; pair++) {
+        if (names != NULL)
+            printf("%s: ", names[pair]);
+        else
+            printf("file %lu: ", (unsigned long)pair);
+        print_line(verdicts[pair], files + long_at(list, PAIR_BYTES * pair),
+                   long_at(list, PAIR_BYTES * pair + 4));
+        tally->kinds[verdicts[pair].kind]++;
+    }
+    return answer;
+}
+
+/* The counts, in the last line; gives the exit status, that of the worst. */
+static int tell_counts(const struct tally *tally)
+{
+    printf("%lu passed, %lu none owed, %lu refused",
+           tally->kinds[JUSTIFICATION_PASSED],
+           tally->kinds[JUSTIFICATION_NONE_OWED],
+           tally->kinds[JUSTIFICATION_REFUSED]);
+    if (tally->unread != 0)
+        printf(", %lu not read", tally->unread);
+    puts("");
+    if (tally->unread != 0)
+        return EXIT_TROUBLE;
+    if (tally->kinds[JUSTIFICATION_REFUSED] != 0)
+        return JUSTIFICATION_REFUSED;
+    return tally->kinds[JUSTIFICATION_NONE_OWED] != 0;
+}
+
+/* Puts the file of this name behind those that are there; 0 if it cannot. */
+static int add_file(struct night *night, const char *name)
+{
+    uint8_t *place = night->files + night->bytes;
+    long bytes = read_file(name, place, MOST_READ);
+    size_t pair = PAIR_BYTES * night->count;
+
+    if (bytes < 0)
+        return 0;
+    put_long(night->list, pair, night->bytes);
+    put_long(night->list, pair + 4, (size_t)bytes);
+    night->names[night->count++] = name;
+    night->bytes += (size_t)bytes;
+    return 1;
+}
+
+/* Checks many files, as many in a call as there may be. */
+static int tell_many(char **names)
+{
+    static struct night night;
+    struct tally tally = {{0, 0, 0}, 0};
+
+    while (*names != NULL) {
+        night.bytes = night.count = 0;
+        while (*names != NULL && night.count < JUSTIFICATION_NIGHT)
+            tally.unread += !add_file(&night, *names++);
+        tell_files(night.files, night.bytes, night.list,
+                   PAIR_BYTES * night.count, night.names, &tally);
+    }
+    return tell_counts(&tally);
+}
+
+/* Checks the files that lie in one, where the list says. */
+static int tell_night(const char *list_name, const char *name)
+{
+    static uint8_t list[LIST_BYTES];
+    struct tally tally = {{0, 0, 0}, 0};
+    long list_bytes = read_file(list_name, list, LIST_BYTES);
+    size_t bytes;
+    uint8_t *files = list_bytes < 0 ? NULL : read_all(name, &bytes);
+    struct justification_verdict answer;
+
+    if (files == NULL)
+        return EXIT_TROUBLE;
+    answer = tell_files(files, bytes, list, (size_t)list_bytes, NULL, &tally);
+    free(files);
+    return answer.kind == JUSTIFICATION_CHECKED ? tell_counts(&tally)
+                                                : answer.kind;
 }
 
 /* Checks the file, through an index if one is named; gives the exit status. */
@@ -273,23 +478,36 @@ static int tell_index(const uint8_t *file, size_t bytes)
     return answer.kind;
 }
 
-int main(int argc, char **argv)
+/* Checks or indexes one file; gives the exit status. */
+static int tell_one(const struct call *call)
 {
     static uint8_t file[MOST_READ];
+    long bytes = read_file(call->files[0], file, MOST_READ);
+
+    if (bytes < 0)
+        return EXIT_TROUBLE;
+    return call->builds_index ? tell_index(file, (size_t)bytes)
+                              : tell_verdict(call->index, file, (size_t)bytes);
+}
+
+int main(int argc, char **argv)
+{
     struct call call;
-    long bytes;
     int status;
 
     if (!take_call(argv + (argc > 0), &call)) {
-        fprintf(stderr, "usage: %s [--index | --through INDEX] [FILE]\n",
-                argv[0]);
+        fprintf(stderr,
+                "usage: %s [--index | --through INDEX | --night LIST] [FILE]\n"
+                "       %s FILE FILE...\n",
+                argv[0], argv[0]);
         return EXIT_TROUBLE;
     }
-    bytes = read_file(call.file, file, MOST_READ);
-    if (bytes < 0)
-        return EXIT_TROUBLE;
-    status = call.builds_index ? tell_index(file, (size_t)bytes)
-                               : tell_verdict(call.index, file, (size_t)bytes);
+    if (call.list != NULL)
+        status = tell_night(call.list, call.files[0]);
+    else if (call.files[0] != NULL && call.files[1] != NULL)
+        status = tell_many(call.files);
+    else
+        status = tell_one(&call);
     if (fflush(stdout) != 0 || ferror(stdout)) {
         perror("standard output");
         return EXIT_TROUBLE;

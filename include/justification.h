@@ -1,6 +1,6 @@
 /*
-** justification.h: check one justification for an audit log. This is the
-** interface for C and its manual.
+** justification.h: check one justification for an audit log, or a night's
+** cases in one call. This is the interface for C and its manual.
 **
 ** An agent has acted. The case file holds the grounds: the audited action, the
 ** shared log, readings that were certified, obligations with the hour by which
@@ -45,6 +45,13 @@ extern "C" {
 #define JUSTIFICATION_INDEX 16385
 
 /*
+** The most files of a night, and the entries of a room that is always long
+** enough for them; see justification_night.
+*/
+#define JUSTIFICATION_NIGHT 64
+#define JUSTIFICATION_NIGHT_ROOM 69632
+
+/*
 ** A verdict: kind, and two values whose meaning depends on it.
 **
 ** kind 0, passed. The justification proves what is owed. first is the number
@@ -77,7 +84,13 @@ struct justification_verdict {
 ** and 23. Where nothing is owed and there are no steps, 31 and 32 come directly
 ** before "none owed". A number is a name and tells no order. One exception:
 ** where a step cites a log row that is struck out, 16 is tried before 14. All
-** places are counted from 0.
+** places are counted from 0. 33 is of a night's list, before all files.
+**
+** A night's list. Of no function but justification_night is it ever the answer.
+**
+** 33  A pair of the list begins before the last one's end, ends beyond the
+**     buffer, is cut short, or is the 65th. No file was checked; mend the list,
+**     or check fewer files at a time. Place: the lowest such pair.
 **
 ** The file is damaged or not a case file. Ask whoever sent it for a good one.
 ** A file of the layout with 36 bytes of header, as it was before duties had due
@@ -198,6 +211,9 @@ struct justification_verdict {
 ** The console prints refusals by it.
 */
 #define JUSTIFICATION_REFUSALS(REFUSAL)                                        \
+    REFUSAL(33, BAD_PAIR, "Pair",                                              \
+            "it begins before the last one's end, ends beyond the files, is "  \
+            "cut short, or is the 65th.")                                      \
     REFUSAL(1, FILE_LENGTH, "", "The file has under 38 or over 47,910 bytes.") \
     REFUSAL(2, FAULTY_PART, "Part",                                            \
             "it is not where it is due, or its length is not right.")          \
@@ -449,6 +465,60 @@ struct justification_verdict
 justification_check_indexed(const uint8_t *file, size_t file_bytes,
                             const uint16_t *index, size_t index_entries,
                             uint16_t *room, size_t room_entries);
+
+/*
+** A night's cases in one call.
+**
+** Up to JUSTIFICATION_NIGHT case files lie in one buffer, files. The list says
+** where: eight bytes for each, the offset of the file in the buffer and its
+** length in bytes, as 32-bit numbers, low byte first. Each pair begins where
+** the last one ended, or later. Bytes that belong to no file are not looked
+** at. A file may have no bytes; it is refused by 1.
+**
+** kind JUSTIFICATION_CHECKED: first is the number of files, second is 0. The
+**     first entries of verdicts are their verdicts, in the list's order. The
+**     room holds what the files that pass list, one behind the other: what is
+**     said at "passed" of the room's first entries is of those behind the last
+**     pass before it, that is, behind first + second entries for each.
+** kind JUSTIFICATION_REFUSED: first is 33, second the pair. No file is checked,
+**     and no verdict and no entry of the room changes.
+**
+** Each verdict, and what is then written, are those of justification_check of
+** the file alone, with the part of the room that the passes before it leave. A
+** file that is refused or owes nothing writes no entry and stops no other. 23
+** tells the entries that the file itself needs; a file behind it may need fewer
+** and pass. In a room of JUSTIFICATION_NIGHT_ROOM entries 23 never comes, and
+** no verdict depends on another file.
+**
+** It never reads a verdict or an entry that was there, and changes none behind
+** those it tells. It writes to neither files nor list.
+**
+**     for (k = 0; k < count; k++)
+**         for (b = 0; b < 4; b++) {
+**             list[8 * k + b] = (uint8_t)(offsets[k] >> 8 * b);
+**             list[8 * k + 4 + b] = (uint8_t)(lengths[k] >> 8 * b);
+**         }
+**     n = justification_night(files, files_bytes, list, 8 * count, verdicts,
+**                             room, JUSTIFICATION_NIGHT_ROOM);
+**
+** Hidden rows. What is said at justification_check holds of each file: change
+** what the file's agent does not observe, and its verdict and entries stay the
+** same, where the verdicts before it are the same and 33 does not come; but for
+** 1, 2 and 5, as it is said there. Where the files lie may change too. A
+** verdict with its entries is for the agent of that file alone: keep those of
+** the others at the desk.
+**
+** What is said there of the file, the heap, the stack, threads and the caller
+** holds of files and list; verdicts is valid for JUSTIFICATION_NIGHT verdicts,
+** aligned for uint16_t, and nothing that is written overlaps anything else.
+*/
+#define JUSTIFICATION_CHECKED 0
+
+struct justification_verdict
+justification_night(const uint8_t *files, size_t files_bytes,
+                    const uint8_t *list, size_t list_bytes,
+                    struct justification_verdict verdicts[JUSTIFICATION_NIGHT],
+                    uint16_t *room, size_t room_entries);
 
 /*
 ** The sizes of formulas.

@@ -9,7 +9,8 @@ use std::path::Path;
 use crate::builder::*;
 use crate::checker::{Verdict, ABSENT, HEADER_BYTES};
 use crate::misfits::misfits;
-use crate::vectors::{read, read_buildings, read_throughs, Building, Through, Vector};
+use crate::vectors::{read, read_buildings, read_nights, read_throughs};
+use crate::vectors::{Building, NightVector, Through, Vector};
 
 /// The entries the program lends.
 pub const ROOM: usize = 1_088;
@@ -510,10 +511,11 @@ pub fn passed(name: &str, case: CaseFile, obligations: &[u16], rows: &[u16]) -> 
 /// The files of `vectors/` have these names; every other one has vectors of plain checks.
 const BUILDINGS: &str = "index-";
 const THROUGHS: &str = "through-";
+const NIGHTS: &str = "night-";
 
 /// The vectors of each file of plain checks in `vectors/`, with the file's name.
 pub fn vector_files() -> Vec<(String, Vec<Vector>)> {
-    files_of(|name| !name.starts_with(BUILDINGS) && !name.starts_with(THROUGHS), read)
+    files_of(|name| ![BUILDINGS, THROUGHS, NIGHTS].iter().any(|kind| name.starts_with(kind)), read)
 }
 
 /// The vectors of building an index.
@@ -525,6 +527,12 @@ pub fn building_vectors() -> Vec<Building> {
 /// The vectors of checks through an index.
 pub fn through_vectors() -> Vec<Through> {
     let files = files_of(|name| name.starts_with(THROUGHS), read_throughs);
+    files.into_iter().flat_map(|(_, vectors)| vectors).collect()
+}
+
+/// The vectors of a night's cases.
+pub fn night_vectors() -> Vec<NightVector> {
+    let files = files_of(|name| name.starts_with(NIGHTS), read_nights);
     files.into_iter().flat_map(|(_, vectors)| vectors).collect()
 }
 

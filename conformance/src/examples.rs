@@ -1,6 +1,7 @@
 //! The files of `examples/`. Cases: document 01's desk cases, what the requests of document 02 bring,
 //! as the desk meets it, and the worked examples of the two papers; a vector's name is its file's.
-//! And indexes by observer, for some of these cases.
+//! Indexes by observer, for some of these cases. And a night of them: the files in one, and lists of
+//! where they lie.
 
 use std::fs;
 use std::io;
@@ -8,8 +9,9 @@ use std::path::{Path, PathBuf};
 
 use crate::builder::bytes;
 use crate::cases;
-use crate::checker::Verdict;
+use crate::checker::{Refusal, Verdict};
 use crate::indexes::{laid_out, Lists, NOT_AS_BUILT};
+use crate::nights::{bad_pair, list_of, Night};
 use crate::output::printed;
 use crate::papers;
 use crate::vectors::Vector;
@@ -110,6 +112,35 @@ pub fn indexes() -> Vec<Index> {
     ]
 }
 
+/// The cases of the desk's night, in their order.
+pub const DESK_NIGHT: [&str; 5] =
+    ["grant", "creator", "visit-premises-swapped", "twice-second-obligation", "visit"];
+
+/// These cases in one, with four bytes of a gap before each and behind the last one, and their list.
+pub fn desk_night() -> Night {
+    Night::of(&DESK_NIGHT.map(|name| example(name).file), || vec![0; 4])
+}
+
+/// A list of `examples/`, for the files of the desk's night.
+pub struct List {
+    pub name: &'static str,
+    pub bytes: Vec<u8>,
+    /// The number of files, or 33.
+    pub answer: Result<u16, Refusal>,
+}
+
+pub fn lists() -> Vec<List> {
+    let night = desk_night();
+    let mut early = night.pairs();
+    early[1].0 = early[0].0 + early[0].1 - 1;
+    let (cut, _) = night.list.split_at(night.list.len() - 1);
+    vec![
+        List { name: "desk-night", bytes: night.list.clone(), answer: Ok(5) },
+        List { name: "desk-night-early", bytes: list_of(&early), answer: Err(bad_pair(1)) },
+        List { name: "desk-night-cut", bytes: cut.to_vec(), answer: Err(bad_pair(4)) },
+    ]
+}
+
 /// The folder, beside this package.
 pub fn folder() -> PathBuf {
     Path::new(env!("CARGO_MANIFEST_DIR")).join("../examples")
@@ -120,8 +151,8 @@ pub fn output(example: &Vector) -> String {
     printed(example.file.len(), example.verdict, &example.written)
 }
 
-/// Every file with its name: each example as `NAME.case`, what the program prints as `NAME.out`, and
-/// each index as `NAME.index`.
+/// Every file with its name: each example as `NAME.case`, what the program prints as `NAME.out`, each
+/// index as `NAME.index`, the desk's night as `desk-night.files`, and each list as `NAME.list`.
 pub fn files() -> Vec<(String, Vec<u8>)> {
     let mut files = Vec::new();
     for example in all() {
@@ -131,6 +162,9 @@ pub fn files() -> Vec<(String, Vec<u8>)> {
     }
     let index = |index: Index| (format!("{}.index", index.name), bytes(index.entries));
     files.extend(indexes().into_iter().map(index));
+    files.push(("desk-night.files".to_string(), desk_night().files));
+    let list = |list: List| (format!("{}.list", list.name), list.bytes);
+    files.extend(lists().into_iter().map(list));
     files
 }
 

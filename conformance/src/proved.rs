@@ -1,7 +1,7 @@
 //! The proved library, behind safe functions. Nothing checks these declarations against the
 //! library's source, so they are few.
 
-use crate::checker::{Refusal, Verdict};
+use crate::checker::{Refusal, Table, Verdict};
 
 #[repr(C)]
 struct VerdictNumbers {
@@ -37,6 +37,15 @@ extern "C" {
         length: usize,
         index: *const u16,
         index_entries: usize,
+        room: *mut u16,
+        entries: usize,
+    ) -> VerdictNumbers;
+    fn justification_night(
+        files: *const u8,
+        files_bytes: usize,
+        list: *const u8,
+        list_bytes: usize,
+        verdicts: *mut VerdictNumbers,
         room: *mut u16,
         entries: usize,
     ) -> VerdictNumbers;
@@ -92,10 +101,15 @@ pub fn admit(file: &[u8]) -> Result<(), Refusal> {
 pub fn build_index(file: &[u8], index: &mut [u16]) -> Result<u16, Refusal> {
     // The library reads `length` bytes from the one pointer and writes at most `entries` numbers
     // to the other; a mutable index overlaps nothing.
-    let answer =
-        unsafe { justification_index(file.as_ptr(), file.len(), index.as_mut_ptr(), index.len()) };
+    count(unsafe {
+        justification_index(file.as_ptr(), file.len(), index.as_mut_ptr(), index.len())
+    })
+}
+
+/// The one value of an answer that is no refusal.
+fn count(answer: VerdictNumbers) -> Result<u16, Refusal> {
     match (answer.kind, answer.first, answer.second) {
-        (0, entries, 0) => Ok(entries),
+        (0, count, 0) => Ok(count),
         (2, number, place) => Err(Refusal { number, place }),
         numbers => panic!("an answer of {numbers:?}"),
     }
@@ -111,6 +125,30 @@ pub fn check_indexed(file: &[u8], index: &[u16], room: &mut [u16]) -> Verdict {
             file.len(),
             index.as_ptr(),
             index.len(),
+            room.as_mut_ptr(),
+            room.len(),
+        )
+    })
+}
+
+/// The answer to any bytes as the files of a night and to any bytes as their list, the verdicts, and
+/// what passes write to the room.
+pub fn check_night(
+    files: &[u8],
+    list: &[u8],
+    verdicts: &mut Table,
+    room: &mut [u16],
+) -> Result<u16, Refusal> {
+    // The library reads `files_bytes` and `list_bytes` bytes from the first two pointers, writes at
+    // most 64 verdicts, each of three numbers as in the table, to the third and at most `entries`
+    // numbers to the fourth; what is mutable overlaps nothing.
+    count(unsafe {
+        justification_night(
+            files.as_ptr(),
+            files.len(),
+            list.as_ptr(),
+            list.len(),
+            verdicts.as_mut_ptr().cast(),
             room.as_mut_ptr(),
             room.len(),
         )

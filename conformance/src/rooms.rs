@@ -16,6 +16,14 @@ pub fn room_too_short() -> u16 {
     number_of("ROOM_TOO_SHORT")
 }
 
+/// The entries that a check with this verdict writes.
+pub fn entries_of(verdict: Verdict) -> usize {
+    match verdict {
+        Verdict::Passed { obligations, rows } => obligations as usize + rows as usize,
+        _ => 0,
+    }
+}
+
 /// The verdict and the whole room after it.
 pub fn answer(check: Checker, file: &[u8], entries: usize) -> (Verdict, Vec<u16>) {
     let mut room = vec![PATTERN; entries];

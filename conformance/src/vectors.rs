@@ -1,6 +1,8 @@
-//! Test vectors: a case file, what is lent with it, and what the checker has to answer.
+//! Test vectors: a case file, or those of a night, what is lent with it, and what the checker has to
+//! answer.
 
 use crate::checker::{Refusal, Verdict};
+use crate::rooms::entries_of;
 
 /// One example or vector.
 pub struct Vector {
@@ -30,6 +32,21 @@ pub struct Through {
     pub index: Vec<u16>,
 }
 
+/// One vector of a night's cases.
+pub struct NightVector {
+    pub name: String,
+    /// The files in one buffer, and the bytes of the list.
+    pub files: Vec<u8>,
+    pub list: Vec<u8>,
+    pub room: usize,
+    /// The number of files, or 33.
+    pub answer: Result<u16, Refusal>,
+    /// One for each file; every later one of the table is unchanged.
+    pub verdicts: Vec<Verdict>,
+    /// The room's first entries after the night; every later one is unchanged.
+    pub written: Vec<u16>,
+}
+
 /// Reads tab separated lines: name, room entries lent, case file in hex, verdict, entries written.
 /// A file or list of nothing is "-"; lines that begin with "#" are remarks. None if any line is
 /// not so.
@@ -45,6 +62,12 @@ pub fn read_buildings(text: &str) -> Option<Vec<Building>> {
 /// The same for: name, room entries lent, case file in hex, index lent, verdict, entries written.
 pub fn read_throughs(text: &str) -> Option<Vec<Through>> {
     read_lines(text, read_through)
+}
+
+/// The same for: name, room entries lent, files in hex, list in hex, answer, verdicts, entries
+/// written. "; " stands between two verdicts.
+pub fn read_nights(text: &str) -> Option<Vec<NightVector>> {
+    read_lines(text, read_night)
 }
 
 fn read_lines<T>(text: &str, read: fn(&[&str]) -> Option<T>) -> Option<Vec<T>> {
@@ -65,7 +88,7 @@ fn read_vector(columns: &[&str]) -> Option<Vector> {
 
 fn read_building(columns: &[&str]) -> Option<Building> {
     let [name, room, file, answer, written] = *columns else { return None };
-    let (answer, written) = (read_answer(answer)?, read_entries(written)?);
+    let (answer, written) = (read_answer("built ", answer)?, read_entries(written)?);
     let entries = answer.unwrap_or(0) as usize;
     let building = Building {
         name: name.to_string(),
@@ -81,6 +104,25 @@ fn read_through(columns: &[&str]) -> Option<Through> {
     let [name, room, file, index, verdict, written] = *columns else { return None };
     let vector = read_vector(&[name, room, file, verdict, written])?;
     Some(Through { vector, index: read_entries(index)? })
+}
+
+fn read_night(columns: &[&str]) -> Option<NightVector> {
+    let [name, room, files, list, answer, verdicts, written] = *columns else { return None };
+    let night = NightVector {
+        name: name.to_string(),
+        files: read_hex(files)?,
+        list: read_hex(list)?,
+        room: room.parse().ok()?,
+        answer: read_answer("checked ", answer)?,
+        verdicts: read_verdicts(verdicts)?,
+        written: read_entries(written)?,
+    };
+    let sound = match night.answer {
+        Ok(files) => night.verdicts.len() == files as usize,
+        Err(refusal) => night.verdicts.is_empty() && refusal.number == 33,
+    };
+    let entries: usize = night.verdicts.iter().map(|verdict| entries_of(*verdict)).sum();
+    (sound && night.written.len() == entries).then_some(night)
 }
 
 fn read_hex(text: &str) -> Option<Vec<u8>> {
@@ -113,10 +155,18 @@ fn read_verdict(text: &str) -> Option<Verdict> {
     }
 }
 
-/// "built" and the entries, or "refused" as a verdict is.
-fn read_answer(text: &str) -> Option<Result<u16, Refusal>> {
-    match (text.strip_prefix("built "), read_verdict(text)) {
-        (Some(entries), _) => Some(Ok(entries.parse().ok()?)),
+/// Verdicts, or "-" for none.
+fn read_verdicts(text: &str) -> Option<Vec<Verdict>> {
+    if text == "-" {
+        return Some(Vec::new());
+    }
+    text.split("; ").map(read_verdict).collect()
+}
+
+/// This word and a number, or "refused" as a verdict is.
+fn read_answer(word: &str, text: &str) -> Option<Result<u16, Refusal>> {
+    match (text.strip_prefix(word), read_verdict(text)) {
+        (Some(number), _) => Some(Ok(number.parse().ok()?)),
         (_, Some(Verdict::Refused { number, place })) => Some(Err(Refusal { number, place })),
         _ => None,
     }

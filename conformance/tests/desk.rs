@@ -74,12 +74,18 @@ fn misfits_in_general() {
     }
 }
 
-/// 29 and 30, which no check of a case by itself gives, have their words too.
+/// 29, 30 and 33, which no check of a case by itself gives, have their words too.
 #[test]
-fn words_of_the_index() {
+fn words_of_indexes_and_nights() {
     let told = [
         (29, 25, "Entries needed 25: the room for the index is too short."),
         (30, 0, "The index is not that of this file's log."),
+        (
+            33,
+            64,
+            "Pair 64: it begins before the last one's end, ends beyond the files, is cut short, or \
+             is the 65th.",
+        ),
     ];
     for (number, place, line) in told {
         let said = words::words(&grant().to_bytes(), Verdict::Refused { number, place }, &[]);

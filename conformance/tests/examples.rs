@@ -1,15 +1,18 @@
-//! The files of `examples/`: as they are built, with the output and the indexes that the separate
-//! checker gives, and each in a table of their README.
+//! The files of `examples/`: as they are built, with the output, the indexes and the answers to lists
+//! that the separate checker gives, and each in a table of their README.
 
 use std::collections::BTreeSet;
 use std::fs;
 
 use conformance::cases::ROOM;
-use conformance::checker::{check, check_indexed, Verdict, ABSENT};
+use conformance::checker::{check, check_indexed, check_night, Refusal, ABSENT};
 use conformance::desk::reading::read;
-use conformance::examples::{all, example, files, folder, indexes, output};
+use conformance::examples::DESK_NIGHT;
+use conformance::examples::{all, desk_night, example, files, folder, indexes, lists, output};
 use conformance::indexes::{due, NOT_AS_BUILT};
+use conformance::nights::outcome;
 use conformance::output::printed;
+use conformance::vectors::Vector;
 
 const REMEDY: &str = "run `cargo run --offline --bin write-examples`";
 
@@ -55,32 +58,88 @@ fn the_separate_checker_agrees_on_indexes() {
     assert_eq!(verdicts, ["passed 0 1", "refused 30 0"].map(str::to_string).into());
 }
 
+/// The number of files, or 33.
+fn in_words(answer: Result<u16, Refusal>) -> String {
+    match answer {
+        Ok(files) => format!("checked {files}"),
+        Err(Refusal { number, place }) => format!("refused {number} {place}"),
+    }
+}
+
+/// A list is the one of the desk's night, by which each of its cases has its own verdict and entries,
+/// or is another one, and gives 33; both are met.
+#[test]
+fn the_separate_checker_agrees_on_nights() {
+    let night = desk_night();
+    let mut answers = BTreeSet::new();
+    for list in lists() {
+        let found = outcome(check_night, &night.files, &list.bytes, ROOM);
+        let cases = if list.bytes == night.list { &DESK_NIGHT[..] } else { &[] };
+        let alone: Vec<Vector> = cases.iter().map(|name| example(name)).collect();
+        let due = alone.iter().map(|case| (case.verdict, &case.written[..]));
+        assert_eq!(found.by_file(), due.collect::<Vec<_>>(), "{}", list.name);
+        assert_eq!(found.answer, list.answer, "{}", list.name);
+        answers.insert(in_words(list.answer));
+    }
+    let told = ["checked 5", "refused 33 1", "refused 33 4"];
+    assert_eq!(answers, told.map(str::to_string).into());
+}
+
+/// In the desk's night there are a pass, a pass with obligations, a case that owes nothing and one
+/// that is refused, and behind this one another pass; and gaps.
+#[test]
+fn the_desk_night_has_all_kinds() {
+    let verdicts = DESK_NIGHT.map(|name| example(name).verdict.to_string());
+    let told = ["passed 0 1", "none owed", "refused 24 3", "passed 2 1", "passed 0 1"];
+    assert_eq!(verdicts, told);
+    let night = desk_night();
+    let of_files: u32 = night.pairs().iter().map(|(_, length)| length).sum();
+    assert_eq!(night.files.len(), of_files as usize + 4 * 6);
+}
+
 fn readme() -> String {
     fs::read_to_string(folder().join("README.md")).expect("it has a README")
 }
 
-/// One line for each example and each index, which ends with the verdict.
+/// One line for each example, each index and each list, which ends with the verdict or the answer.
 #[test]
 fn the_readme_lists_each() {
     let text = readme();
-    let examples = all().into_iter().map(|example| (example.name, example.verdict));
-    let indexes =
-        indexes().into_iter().map(|index| (format!("{}.index", index.name), index.verdict));
-    let listed: Vec<(String, Verdict)> = examples.chain(indexes).collect();
-    for (name, verdict) in &listed {
+    let examples = all().into_iter().map(|example| (example.name, example.verdict.to_string()));
+    let indexes = indexes()
+        .into_iter()
+        .map(|index| (format!("{}.index", index.name), index.verdict.to_string()));
+    let lists =
+        lists().into_iter().map(|list| (format!("{}.list", list.name), in_words(list.answer)));
+    let listed: Vec<(String, String)> = examples.chain(indexes).chain(lists).collect();
+    for (name, answer) in &listed {
         let begins = format!("| `{name}` |");
         let lines: Vec<&str> = text.lines().filter(|line| line.starts_with(&begins)).collect();
         let [line] = lines[..] else { panic!("{} lines for {name}", lines.len()) };
-        assert!(line.ends_with(&format!("| {verdict} |")), "{line}");
+        assert!(line.ends_with(&format!("| {answer} |")), "{line}");
     }
     assert_eq!(text.lines().filter(|line| line.starts_with("| `")).count(), listed.len());
 }
 
-/// The README's section on the index, without its heading.
-fn on_the_index() -> String {
+/// A section of the README, without its heading.
+fn section(heading: &str) -> String {
     let text = readme();
-    let (_, section) = text.split_once("\n## The index by observer\n").expect("a section");
+    let (_, section) = text.split_once(&format!("\n## {heading}\n")).expect("a section");
     section.split_once("\n## ").expect("another one").0.to_string()
+}
+
+fn on_the_index() -> String {
+    section("The index by observer")
+}
+
+/// The first lines of a section that are indented: the numbers, and the words behind them in each
+/// line.
+fn in_numbers(section: &str) -> Vec<(Vec<u32>, String)> {
+    let lines = section.lines().skip_while(|line| !line.starts_with("    "));
+    let lines = lines.map_while(|line| line.strip_prefix("    ")?.split_once("  "));
+    let numbers =
+        |text: &str| text.split(' ').map(|word| word.parse().expect("a number")).collect();
+    lines.map(|(front, words)| (numbers(front), words.trim_start().to_string())).collect()
 }
 
 /// The README has the rows of the shared log: the one that is struck out, and who sees each. The
@@ -113,10 +172,26 @@ fn the_readme_has_indexes_in_numbers() {
         let found = indexes().into_iter().find(|index| index.name == name);
         found.expect("there is such an index").entries
     };
-    let lines = section.lines().skip_while(|line| !line.starts_with("    "));
-    let lines = lines.map_while(|line| line.strip_prefix("    ")?.split_once("  "));
-    let told = lines.flat_map(|(numbers, _)| numbers.split(' ')).map(str::parse);
-    assert_eq!(told.collect::<Result<Vec<u16>, _>>(), Ok(entries("shared-log")));
+    let told = in_numbers(&section).into_iter().flat_map(|(numbers, _)| numbers);
+    let due = entries("shared-log").into_iter().map(u32::from);
+    assert_eq!(told.collect::<Vec<u32>>(), due.collect::<Vec<u32>>());
     let grant = entries("grant").iter().map(u16::to_string).collect::<Vec<String>>().join(" ");
     assert!(section.contains(&format!(": {grant} | `grant` |")), "{grant}");
+}
+
+/// The README has the list of the desk's night in numbers, a line for each case, with the bytes of
+/// all files, and tells where the other lists differ.
+#[test]
+fn the_readme_has_the_list_in_numbers() {
+    let section = section("A night's cases");
+    let night = desk_night();
+    let told = in_numbers(&section);
+    assert_eq!(told.len(), DESK_NIGHT.len());
+    for ((numbers, words), (case, pair)) in told.iter().zip(DESK_NIGHT.iter().zip(night.pairs())) {
+        assert_eq!(numbers[..], [pair.0, pair.1], "{case}");
+        assert_eq!(words.split(':').next(), Some(*case));
+    }
+    assert!(section.contains(&format!(", {} bytes in all.", night.files.len())));
+    let early = night.pairs()[0].0 + night.pairs()[0].1 - 1;
+    assert!(section.contains(&format!("begins at byte {early}, one before the end of the first")));
 }

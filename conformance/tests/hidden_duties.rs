@@ -2,8 +2,6 @@
 //! it holds. By the separate checker, without an index and through one; with the feature `proved`
 //! the proved library has to say the same.
 
-use std::collections::BTreeMap;
-
 use conformance::builder::{CaseFile, Obligation};
 use conformance::checker::{check, number_at, strike_unseen, Verdict, ABSENT, HOUR_AT};
 use conformance::desk::words::number_of;
@@ -12,6 +10,7 @@ use conformance::hidden::{is_left_out, pair_with_duties};
 use conformance::indexes::{checked, due};
 use conformance::random::Random;
 use conformance::rooms;
+use conformance::tallies::{count, count_verdict, Answers, Times, NONE_OWED};
 
 /// The one answer to a file: the verdict, and the whole room.
 fn answer(file: &[u8], entries: usize) -> (Verdict, Vec<u16>) {
@@ -55,20 +54,12 @@ fn kind_of_row([one, other]: [&CaseFile; 2], duty: &Obligation) -> Option<&'stat
     Some(kind)
 }
 
-/// How often something came.
-type Times<K> = BTreeMap<K, usize>;
-
-fn count<K: Ord>(times: &mut Times<K>, key: K) {
-    *times.entry(key).or_insert(0) += 1;
-}
-
 /// What was seen in all pairs.
 #[derive(Default, Debug)]
 struct Seen {
     /// The kinds of rows that duties name, and whether the duty is expired.
     rows: Times<(&'static str, bool)>,
-    /// 0 for a pass, 65,535 for none owed, and else the refusal.
-    answers: Times<u16>,
+    answers: Answers,
     /// The kinds of rows of the duties that 31 and 32 tell.
     told: Times<(u16, Option<&'static str>)>,
 }
@@ -83,16 +74,11 @@ impl Seen {
         });
         assert!(named.clone().count() > 0);
         named.for_each(|kind| count(&mut self.rows, kind));
-        match verdict {
-            Verdict::Passed { .. } => count(&mut self.answers, 0),
-            Verdict::NoneOwed => count(&mut self.answers, u16::MAX),
-            Verdict::Refused { number, place } => {
-                count(&mut self.answers, number);
-                if [not_done(), named_twice()].contains(&number) {
-                    let duty = &obligations[place as usize];
-                    count(&mut self.told, (number, kind_of_row(pair, duty)));
-                }
-            }
+        count_verdict(&mut self.answers, verdict);
+        let Verdict::Refused { number, place } = verdict else { return };
+        if [not_done(), named_twice()].contains(&number) {
+            let duty = &obligations[place as usize];
+            count(&mut self.told, (number, kind_of_row(pair, duty)));
         }
     }
 }
@@ -127,7 +113,7 @@ fn pairs_alike_to_the_agent() {
     assert!(turn < 13_000 && observers > 10_000, "{turn}, {observers}");
     let Seen { rows, answers, told } = seen;
     assert!(rows.len() == 14 && rows.values().all(|times| *times >= 150), "{rows:?}");
-    let often = [0, u16::MAX, not_done(), named_twice()];
+    let often = [0, NONE_OWED, not_done(), named_twice()];
     assert!(often.iter().all(|answer| answers[answer] >= 1_200), "{answers:?}");
     // 31 of no row and of each kind but what is done; 32 of each kind of row.
     assert!(told.len() == 7 + 7 && told.values().all(|times| *times >= 20), "{told:?}");

@@ -21,6 +21,7 @@ use conformance::justifications::{failing_duties, passing, slipping};
 use conformance::loads::{index_loads, observed};
 use conformance::random::{damage, Random};
 use conformance::rooms::{room_too_short, PATTERN};
+use conformance::tallies::{count, count_verdict, Answers, NONE_OWED};
 use conformance::vectors;
 use conformance::wrong_indexes::{random_index, WAYS};
 #[cfg(feature = "proved")]
@@ -504,19 +505,6 @@ fn random_file(turn: usize, random: &mut Random) -> Vec<u8> {
     }
 }
 
-/// How often each answer came: 0 for an index that is built and for a pass, the number of a
-/// refusal, and 65,535 for none owed.
-type Answers = BTreeMap<u16, usize>;
-
-fn count_verdict(answers: &mut Answers, verdict: Verdict) {
-    let number = match verdict {
-        Verdict::Passed { .. } => 0,
-        Verdict::NoneOwed => u16::MAX,
-        Verdict::Refused { number, .. } => number,
-    };
-    *answers.entry(number).or_insert(0) += 1;
-}
-
 /// Building in a room of no entries, one too few, just enough or more.
 fn build_somewhere(file: &[u8], random: &mut Random) -> Result<u16, Refusal> {
     let Ok(index) = due(file) else { return built(file, random.below(9)).0 };
@@ -537,7 +525,7 @@ fn random_cases() {
         let file = random_file(turn, &mut random);
         let answer = build_somewhere(&file, &mut random);
         let number = answer.map_or_else(|refusal| refusal.number, |_| 0);
-        *building.entry(number).or_insert(0) += 1;
+        count(&mut building, number);
         let (way, index) = random_index(&file, &mut random);
         let index = if random.one_in(2) { due(&file).unwrap_or(index) } else { index };
         let verdict = checked_in_all_rooms(&file, &index);
@@ -551,7 +539,7 @@ fn random_cases() {
     let duties = ["DUTY_NOT_DONE", "ROW_NAMED_TWICE"].map(number_of);
     assert!(duties.iter().all(|number| checking[number] >= 1_000), "{checking:?}");
     let due = check_refusals().map(|refusal| refusal.number);
-    let due = due.filter(|number| *number != room_too_short()).chain([u16::MAX]);
+    let due = due.filter(|number| *number != room_too_short()).chain([NONE_OWED]);
     assert!(due.clone().all(|number| checking.get(&number) > Some(&20)), "{checking:?}");
     assert_eq!((wrong.remove("as built"), wrong.remove("any entries")), (Some(0), Some(0)));
     assert_eq!(wrong.len(), WAYS, "{wrong:?}");

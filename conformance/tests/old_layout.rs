@@ -8,6 +8,7 @@ use conformance::checker::{HEADER_BYTES, HOUR_AT};
 use conformance::examples;
 use conformance::full_size::full_size;
 use conformance::indexes::{built, checked, lent};
+use conformance::nights::{self, Night};
 use conformance::old_layout::{in_old_layout, old_vectors, without_hour};
 use conformance::rooms::{answer, PATTERN};
 use conformance::vectors::Vector;
@@ -30,6 +31,8 @@ fn refusal(file: &[u8]) -> (u16, u16) {
         let expected = (verdict, vec![PATTERN; ROOM]);
         assert_eq!(checked(file, index, ROOM), expected, "{file:?}");
     }
+    let night = Night::of(&[file], || vec![1]);
+    assert_eq!(nights::checked(&night, 4).verdicts(), [verdict], "{file:?}");
     (number, place)
 }
 

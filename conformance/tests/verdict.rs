@@ -17,8 +17,10 @@ use conformance::loads::loads;
 use conformance::proved;
 use conformance::random::Random;
 use conformance::refinements::{grounds, is_right_about_refining, refine_steps};
-use conformance::rooms::{agreed, agreed_in_all_rooms, answer, room_too_short, PATTERN};
+use conformance::rooms::{agreed, agreed_in_all_rooms, answer, entries_of};
+use conformance::rooms::{room_too_short, PATTERN};
 use conformance::strays::{lowest_stray, strays};
+use conformance::tallies::{count, count_verdict, Answers, NONE_OWED};
 
 #[test]
 fn every_example_and_vector() {
@@ -31,21 +33,12 @@ fn every_example_and_vector() {
     }
 }
 
-/// None owed, among the numbers of refusals.
-const NONE_OWED: u16 = u16::MAX;
-
-/// How often each refusal came, and 0 for a pass. A pass whose room is one entry too short counts
-/// as that refusal too.
-type Answers = BTreeMap<u16, usize>;
-
-fn count(answers: &mut Answers, verdict: Verdict) {
-    let numbers = match verdict {
-        Verdict::Passed { obligations: 0, rows: 0 } => vec![0],
-        Verdict::Passed { .. } => vec![0, room_too_short()],
-        Verdict::NoneOwed => vec![NONE_OWED],
-        Verdict::Refused { number, .. } => vec![number],
-    };
-    numbers.into_iter().for_each(|number| *answers.entry(number).or_insert(0) += 1);
+/// A pass whose room is one entry too short counts as that refusal too.
+fn count_in_all_rooms(answers: &mut Answers, verdict: Verdict) {
+    count_verdict(answers, verdict);
+    if entries_of(verdict) > 0 {
+        count(answers, room_too_short());
+    }
 }
 
 /// Justifications that pass, with slips, and damaged.
@@ -82,7 +75,7 @@ fn run(seed: u64, turns: usize) -> (Answers, BTreeMap<&'static str, usize>) {
         let (way, file) = random_file(turn, &mut random);
         let verdict = agreed_in_all_rooms(&file);
         assert_place(&file, verdict);
-        count(&mut answers, verdict);
+        count_in_all_rooms(&mut answers, verdict);
         let times = refused.entry(way).or_insert(0);
         *times += usize::from(matches!(verdict, Verdict::Refused { .. }));
     }

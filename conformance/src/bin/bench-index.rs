@@ -8,7 +8,6 @@
 use std::collections::BTreeMap;
 use std::env;
 use std::hint::black_box;
-use std::time::Instant;
 
 use conformance::cases::ROOM;
 use conformance::checker::{self, number_at, pair_at, Verdict};
@@ -16,10 +15,9 @@ use conformance::full_size::full_size;
 use conformance::indexes::{as_built, due, MOST_ENTRIES};
 use conformance::loads::index_loads;
 use conformance::proved;
+use conformance::timing::{best_in_turn, call_only, Call};
 
 const RUNS: usize = 301;
-/// A run makes a short call so often that it takes about this long, in microseconds.
-const RUN: f64 = 200.0;
 
 /// A case file, its index, and what is lent.
 struct Load {
@@ -84,10 +82,8 @@ fn by_a_map(file: &[u8], index: &mut [u16]) -> usize {
     end
 }
 
-type Call = fn(&mut Load);
-
 /// What is timed. The index and the room are as the last call left them.
-const CALLS: [(&str, Call); 8] = [
+const CALLS: [Call<Load>; 8] = [
     ("proved-index", |load| {
         _ = black_box(proved::build_index(black_box(&load.file), &mut load.index_room));
     }),
@@ -111,29 +107,6 @@ const CALLS: [(&str, Call); 8] = [
         _ = black_box(checker::check(black_box(&load.file), &mut load.room));
     }),
 ];
-
-/// Microseconds of so many calls.
-fn time(load: &mut Load, call: Call, times: usize) -> f64 {
-    let start = Instant::now();
-    for _ in 0..times {
-        call(load);
-    }
-    start.elapsed().as_secs_f64() * 1e6
-}
-
-/// Microseconds of one of each call: the best of runs in turn, after one run of each that is not
-/// counted.
-fn times(load: &mut Load) -> Times {
-    let often = CALLS.map(|(_, call)| (RUN / time(load, call, 1)).ceil() as usize);
-    let mut best = [f64::INFINITY; CALLS.len()];
-    for _ in 0..RUNS {
-        for (at, (_, call)) in CALLS.into_iter().enumerate() {
-            let run = time(load, call, often[at]) / often[at] as f64;
-            best[at] = best[at].min(run);
-        }
-    }
-    best
-}
 
 /// The times of one load.
 type Times = [f64; CALLS.len()];
@@ -165,6 +138,7 @@ fn print_checking(load: &Load, verdict: Verdict, times: Times) {
 fn compare() {
     let mut loads = all();
     let verdicts: Vec<Verdict> = loads.iter().map(Load::verdict).collect();
+    let times = |load: &mut Load| best_in_turn(load, CALLS, RUNS);
     let found: Vec<Times> = loads.iter_mut().map(times).collect();
     println!("The best of {RUNS} runs in turn, in microseconds; the files are in the cache.\n");
     println!(
@@ -182,13 +156,9 @@ fn compare() {
     }
 }
 
-/// Makes a call so many times; none makes the load and calls nothing.
-fn call_only(name: &str, load: &str, times: usize) {
-    let (_, call) = CALLS.into_iter().find(|known| known.0 == name).expect("there is such a call");
-    let mut load = all().into_iter().find(|known| known.name == load).expect("such a load");
-    for _ in 0..times {
-        call(&mut load);
-    }
+/// The load of this name.
+fn load(name: &str) -> Load {
+    all().into_iter().find(|known| known.name == name).expect("there is such a load")
 }
 
 fn main() {
@@ -197,7 +167,9 @@ fn main() {
     match words[..] {
         [] => compare(),
         ["loads"] => all().iter().for_each(|load| println!("{}", load.name)),
-        [call, load, times] => call_only(call, load, times.parse().expect("a number of calls")),
+        [call, name, times] => {
+            call_only(&CALLS, call, &mut load(name), times.parse().expect("a number of calls"));
+        }
         _ => panic!("give nothing, `loads`, or a call, a load and a number of calls"),
     }
 }

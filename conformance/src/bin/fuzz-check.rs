@@ -1,6 +1,6 @@
 //! A target of clang's libFuzzer: whatever the bytes, the proved checker says what the separate one
-//! says, also of the log's index and through one. `attack/run` builds it; the separate checker's
-//! branches guide the search.
+//! says, also of the log's index and through one; and of the night that the bytes tell, if they tell
+//! any. `attack/run` builds it; the separate checker's branches guide the search.
 
 #![no_main]
 
@@ -8,6 +8,8 @@ use std::slice;
 
 use conformance::indexes::{as_built, checked_in_all_rooms};
 use conformance::mutator::mutated;
+use conformance::night_inputs::{mutated_night, night_of};
+use conformance::nights;
 use conformance::random::Random;
 use conformance::rooms::agreed_in_all_rooms;
 use conformance::wrong_indexes::random_index;
@@ -29,6 +31,11 @@ pub extern "C" fn test_one_input(data: *const u8, length: usize) -> i32 {
     as_built(file);
     let (_, index) = random_index(file, &mut Random(seed(file)));
     checked_in_all_rooms(file, &index);
+    if let Some(night) = night_of(file) {
+        nights::checked_in_all_rooms(&night);
+        // A file behind one that does not fit may fit here.
+        nights::checked(&night, night.needed() / 2);
+    }
     0
 }
 
@@ -44,10 +51,11 @@ pub extern "C" fn mutate(data: *mut u8, length: usize, most: usize, seed: u32) -
     let mut random = Random((seed as u64 + 1).wrapping_mul(0x9E37_79B9_7F4A_7C15));
     // libFuzzer lends `most` bytes, of which the first `length` are the input.
     let bytes = unsafe { slice::from_raw_parts_mut(data, most) };
-    match mutated(&bytes[..length], &mut random) {
-        Some(file) if file.len() <= most && !random.one_in(4) => {
-            bytes[..file.len()].copy_from_slice(&file);
-            file.len()
+    let input = &bytes[..length];
+    match mutated_night(input, &mut random).or_else(|| mutated(input, &mut random)) {
+        Some(changed) if changed.len() <= most && !random.one_in(4) => {
+            bytes[..changed.len()].copy_from_slice(&changed);
+            changed.len()
         }
         // The same bytes, lent on.
         _ => unsafe { LLVMFuzzerMutate(data, length, most) },

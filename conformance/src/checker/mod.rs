@@ -1,12 +1,12 @@
-//! The plain checker of one case: document 01 from top to bottom, with change requests 1 to 6 of
+//! The plain checker of one case: document 01 from top to bottom, with change requests 1 to 7 of
 //! document 02, one small function for each check and each rule. Here are the answers and the order
 //! of the checks. The checks themselves are in `case_file`, `terms`, `formulas`, `records`, `steps`,
-//! `misfits`, `rules`, `end` and `duties`, to be read in this order; `index` and `striking` are
-//! apart from them.
+//! `misfits`, `rules`, `end` and `duties`, to be read in this order; `index`, `night` and `striking`
+//! are apart from them.
 //!
 //! Formulas are read into trees and trees are compared, so nothing here rests on one meaning
-//! having one row number. Words in quotes are document 01's, and those about 24 to 32, hours, the
-//! column of sizes and the index document 02's.
+//! having one row number. Words in quotes are document 01's, and those about 24 to 33, hours, the
+//! column of sizes, the index and a night's cases document 02's.
 
 mod case_file;
 mod duties;
@@ -14,6 +14,7 @@ mod end;
 mod formulas;
 mod index;
 mod misfits;
+mod night;
 mod records;
 mod rules;
 mod steps;
@@ -27,6 +28,7 @@ pub use case_file::{number_at, pair_at};
 pub use case_file::{ABSENT, ACTION_AT, AGENT_AT, HEADER_BYTES, HOUR_AT, MOST_BYTES, PARTS};
 pub use formulas::{admit_book, size_column, EACH_USE};
 pub use index::build_index;
+pub use night::{check_night, Table, NIGHT};
 pub use striking::strike_unseen;
 
 pub(crate) use case_file::{check_2, fields, numbers, pairs};

@@ -42,9 +42,10 @@ pub fn refusals() -> &'static [Meaning] {
     LISTED.get_or_init(|| entries("REFUSAL").map(refusal).collect())
 }
 
-/// The header's list without 29 and 30, which only an index brings.
+/// The header's list without 29 and 30, which only an index brings, and 33, which only a night's
+/// list does.
 pub fn check_refusals() -> impl Iterator<Item = &'static Meaning> + Clone {
-    refusals().iter().filter(|refusal| !matches!(refusal.number, 29 | 30))
+    refusals().iter().filter(|refusal| !matches!(refusal.number, 29 | 30 | 33))
 }
 
 /// The header's list of refusals that it tells by the rule.

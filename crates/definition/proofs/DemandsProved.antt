@@ -1,4 +1,4 @@
--- The three demands, proved of the definition. Each is stated in specs/44-Demands, but that the place of 27 is by the book alone; that, and what requests promise and leave as it was, in specs/46-Requests, of request 5 in specs/47-Indexed, of request 6 in specs/49-Duties. Assumes nothing.
+-- The three demands, proved of the definition. Each is stated in specs/44-Demands, but that the place of 27 is by the book alone; that, and what requests promise and leave as it was, in specs/46-Requests, of request 5 in specs/47-Indexed, of request 6 in specs/49-Duties, of request 7 in specs/71-Nights. Assumes nothing.
 use Rattle.definition.proofs.CitedLists as cited
 use Rattle.definition.proofs.DutyNumbers as numbers
 use Rattle.definition.proofs.DutyPromises as duties
@@ -6,6 +6,10 @@ use Rattle.definition.proofs.IndexHolds as held
 use Rattle.definition.proofs.IndexPromises as indexed
 use Rattle.definition.proofs.OrderedLogs as ordered
 use Rattle.definition.proofs.MisfitLaws as misfits
+use Rattle.definition.proofs.NightFiles as files
+use Rattle.definition.proofs.NightPairs as pairs
+use Rattle.definition.proofs.NightPromises as nights
+use Rattle.definition.proofs.NightTurns as turns
 use Rattle.definition.proofs.NoneOwed as none
 use Rattle.definition.proofs.OneNumber.{one-number}
 use Rattle.definition.proofs.OwnNumbers as own
@@ -23,6 +27,7 @@ use Rattle.definition.specs.44-Demands.{RefusalKeepsRoom, NoneOwedKeepsR
 use Rattle.definition.specs.46-Requests.{NumbersAlone, FitsAsBefore, TellsStray, PlaceByBook, StraysAlone, TellsRefining, RefiningsAlone, HoldsWithoutLog, TellsSizes, SizeIsRows, SizesFit, SizesShowNoRow}
 use Rattle.definition.specs.47-Indexed.{IndexHolds, ListIsSeen, UnseeingHasNone, IndexLength, EntriesFit, BuildingRefused, IndexBuilt, ThroughExactly, ThroughKeepsRoom, LaterNotRead, BuiltIsAsBuilt, BuiltIsEnough, StrikingKeepsIndex, ThroughShowsNoRow}
 use Rattle.definition.specs.49-Duties.{RefusedUndone, RefusedNamedTwice, UnseenIsNotDone, DutiesAlone, KeptAsBefore, NoneDueKept, RefusedForLength, DutiesRead, RefusedBadDuty, RefusedBadAudit, DoneByNumbers, OldIsRefused}
+use Rattle.definition.specs.71-Nights.{PairsRead, NumbersTold, RefusedForPair, PairKeepsAll, SoundExactly, FilesRead, ToldInTurn, FilesFit, RefusedStopsNone, ListsEndToEnd, LongRoomSuffices, LongRoomAlone, StrikesFile, NightShowsNoRow, AllStruckAlike}
 
 pub record Demand1 : Type 0 where
   pub refusal-keeps-room : RefusalKeepsRoom
@@ -46,6 +51,9 @@ pub record Demand3 : Type 0 where
   pub place-by-book : PlaceByBook
   pub sizes-show-no-row : SizesShowNoRow
   pub through-shows-no-row : ThroughShowsNoRow
+  pub night-shows-no-row : NightShowsNoRow
+  pub strikes-file : StrikesFile
+  pub all-struck-alike : AllStruckAlike
 
 pub record Request1 : Type 0 where
   pub numbers-alone : NumbersAlone
@@ -94,6 +102,20 @@ pub record Request6 : Type 0 where
   pub done-by-numbers : DoneByNumbers
   pub old-is-refused : OldIsRefused
 
+pub record Request7 : Type 0 where
+  pub pairs-read : PairsRead
+  pub numbers-told : NumbersTold
+  pub refused-for-pair : RefusedForPair
+  pub pair-keeps-all : PairKeepsAll
+  pub sound-exactly : SoundExactly
+  pub files-read : FilesRead
+  pub told-in-turn : ToldInTurn
+  pub files-fit : FilesFit
+  pub refused-stops-none : RefusedStopsNone
+  pub lists-end-to-end : ListsEndToEnd
+  pub long-room-suffices : LongRoomSuffices
+  pub long-room-alone : LongRoomAlone
+
 pub demand-1 : Demand1
 demand-1 =
     record {
@@ -124,6 +146,9 @@ demand-3 =
       place-by-book = strays.place-by-book;
       sizes-show-no-row = sizes.sizes-show-no-row;
       through-shows-no-row = indexed.through-shows-no-row;
+      night-shows-no-row = nights.night-shows-no-row;
+      strikes-file = nights.strikes-file;
+      all-struck-alike = turns.all-struck-alike;
     }
 
 pub one-meaning-one-number : OneMeaningOneNumber
@@ -174,4 +199,21 @@ request-6 =
       refused-bad-audit = numbers.refused-bad-audit;
       done-by-numbers = numbers.done-by-numbers;
       old-is-refused = duties.old-is-refused;
+    }
+
+pub request-7 : Request7
+request-7 =
+    record {
+      pairs-read = pairs.pairs-read;
+      numbers-told = nights.numbers-told;
+      refused-for-pair = pairs.refused-for-pair;
+      pair-keeps-all = pairs.pair-keeps-all;
+      sound-exactly = pairs.sound-exactly;
+      files-read = pairs.files-read;
+      told-in-turn = files.told-in-turn;
+      files-fit = pairs.files-fit;
+      refused-stops-none = turns.refused-stops-none;
+      lists-end-to-end = files.lists-end-to-end;
+      long-room-suffices = nights.night-room-suffices;
+      long-room-alone = nights.long-room-alone;
     }

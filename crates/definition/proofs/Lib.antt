@@ -3,6 +3,7 @@ pub mod Tests
 pub mod ListLaws
 pub mod Windows
 pub mod RangeLaws
+pub mod LaidLists
 pub mod TotalLaws
 pub mod CheckLaws
 pub mod TreeEquality
@@ -52,4 +53,8 @@ pub mod PromiseLaws
 pub mod IndexPromises
 pub mod DutyPromises
 pub mod DutyNumbers
+pub mod NightTurns
+pub mod NightFiles
+pub mod NightPairs
+pub mod NightPromises
 pub mod DemandsProved

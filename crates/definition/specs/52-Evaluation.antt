@@ -20,9 +20,11 @@ use Rattle.definition.specs.21-Rules.{evaluatedRules}
 use Rattle.definition.specs.22-Steps.{evaluatedSteps}
 use Rattle.definition.specs.23-Duties.{evaluatedDuties}
 use Rattle.definition.specs.31-Outcome.{Outcome, outcome, evaluatedOutcome}
+use Rattle.definition.specs.32-Numbers.{evaluatedNumbers}
 use Rattle.definition.specs.35-Index.{evaluatedIndex}
+use Rattle.definition.specs.36-Night.{evaluatedNight}
 use Rattle.definition.specs.51-Files.{evaluatedFiles}
 
 unfoldable pub evaluated : List ℕ → List ℕ → Outcome
-unfolding decide ℕ-discrete evaluatedWords evaluatedRanges evaluatedLists evaluatedChecks evaluatedLayout evaluatedTerms evaluatedFormulas evaluatedBook evaluatedRecords evaluatedViews evaluatedCase evaluatedAdmission evaluatedRewriting evaluatedRules evaluatedSteps evaluatedDuties evaluatedOutcome evaluatedIndex evaluatedFiles
+unfolding decide ℕ-discrete evaluatedWords evaluatedRanges evaluatedLists evaluatedChecks evaluatedLayout evaluatedTerms evaluatedFormulas evaluatedBook evaluatedRecords evaluatedViews evaluatedCase evaluatedAdmission evaluatedRewriting evaluatedRules evaluatedSteps evaluatedDuties evaluatedOutcome evaluatedNumbers evaluatedIndex evaluatedNight evaluatedFiles
 evaluated s room = outcome s room

@@ -1,4 +1,4 @@
--- What is right, in document 01's order: 0 numbers, lists and checks; 1 the case file; 2 the steps of a justification; 3 the verdict; 4 the demands, and what requests of document 02 promise and leave as it was; 5 and 6 examples.
+-- What is right, in document 01's order: 0 numbers, lists and checks; 1 the case file; 2 the steps of a justification; 3 the verdict; 4 the demands, and what requests of document 02 promise and leave as it was; 5 and 6 examples; 7 what requests from 7 on promise.
 pub mod 01-Words
 pub mod 02-Ranges
 pub mod 03-Lists
@@ -20,6 +20,7 @@ pub mod 32-Numbers
 pub mod 33-Text
 pub mod 34-Program
 pub mod 35-Index
+pub mod 36-Night
 pub mod 41-Occurrences
 pub mod 42-Account
 pub mod 43-Alike
@@ -40,3 +41,5 @@ pub mod 58-Table
 pub mod 59-Sizes
 pub mod 60-Indexes
 pub mod 62-StepFaults
+pub mod 63-Nights
+pub mod 71-Nights

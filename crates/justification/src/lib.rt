@@ -1,3 +1,2 @@
 // The library: what C and Rust programs call, and nothing else.
 mod exports;
-mod numbers;

@@ -12,9 +12,10 @@ use Rattle.definition.specs.15-Records.{logOf}
 use Rattle.definition.specs.18-Admission.{checksToLog}
 use Rattle.definition.specs.35-Index.{indexOf, indexRoomChecks, buildingChecks, lay, building}
 use Rattle.definition.specs.48-Places.{OrderedLog}
-use Rattle.observer_index.specs.Meanings.{builtMeant, BuiltAs}
-use Rattle.observer_index.specs.declared.building.Built.{Built}
-use Rattle.observer_index.specs.declared.building.Built.the-variants.{Refused}
+use Rattle.observer_index.specs.Meanings.{BuiltAs}
+use Rattle.words.specs.Meanings.{countedMeant}
+use Rattle.words.specs.declared.runs.Counted.{Counted}
+use Rattle.words.specs.declared.runs.Counted.the-variants.{Refused}
 
 -- The parts of a file that are its log.
 pub log-is : (s : List ℕ) {rows observers : List ℕ} → rows ≡ part s log-part → observers ≡ part s observer-part → logWith rows observers ≡ logOf s
@@ -25,11 +26,11 @@ pub parts-ordered : (s : List ℕ) {rows observers : List ℕ} → inOrder (chec
 parts-ordered s is e f = rw (log-is s e f) (logged-ordered s is)
 
 pub built-refused : (s room : List ℕ) {n p : ℕ} → refuses n p ≡ inOrder (checksToLog s) → BuiltAs (building s room) (Refused n p) room
-unfolding building buildingChecks lay builtMeant
+unfolding building buildingChecks lay countedMeant
 built-refused s room e = rw (← stop-before (checksToLog s) (indexRoomChecks (logOf s) (length room)) e) record { answer = refl; room-is = refl }
 
 pub built-logged :
-    (s room : List ℕ) {rows observers after : List ℕ} {r : Built} → inOrder (checksToLog s) ≡ accepts tt → rows ≡ part s log-part → observers ≡ part s observer-part →
+    (s room : List ℕ) {rows observers after : List ℕ} {r : Counted} → inOrder (checksToLog s) ≡ accepts tt → rows ≡ part s log-part → observers ≡ part s observer-part →
     BuiltAs (lay (inOrder (indexRoomChecks (logWith rows observers) (length room))) (indexOf (logWith rows observers)) room) r after → BuiltAs (building s room) r after
 unfolding building buildingChecks
 built-logged s room is e f h =

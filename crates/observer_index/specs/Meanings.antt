@@ -1,17 +1,12 @@
--- What the code's type of an answer stands for, and the answer with the room.
-use Prim.Native.Nat.{ℕ}
+-- What the code's answer with the room stands for.
 use mathlib.Core.Path.{_≡_}
+use Prim.Native.Nat.{ℕ}
 use mathlib.Core.List.{List}
-use Rattle.definition.specs.04-Checks.{Checked, accepts, refuses}
-use Rattle.definition.specs.35-Index as definition
-use Rattle.observer_index.specs.declared.building.Built.{Built}
-use Rattle.observer_index.specs.declared.building.Built.the-variants.{Entries, Refused}
-
-unfoldable pub builtMeant : Built → Checked ℕ
-builtMeant (Entries n) = accepts n
-builtMeant (Refused n p) = refuses n p
+use Rattle.definition.specs.35-Index.{Built}
+use Rattle.words.specs.Meanings.{countedMeant}
+use Rattle.words.specs.declared.runs.Counted.{Counted}
 
 -- The answer and the room are the definition's.
-pub record BuiltAs (due : definition.Built) (r : Built) (after : List ℕ) : Type 0 where
-  pub answer : builtMeant r ≡ due .answer
+pub record BuiltAs (due : Built) (r : Counted) (after : List ℕ) : Type 0 where
+  pub answer : countedMeant r ≡ due .answer
   pub room-is : after ≡ due .room

@@ -6,6 +6,5 @@ mod seeing;
 mod tallies;
 mod through;
 
-pub use building::Built;
 pub use building::build;
 pub use through::check_through;

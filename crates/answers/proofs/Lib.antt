@@ -1,0 +1,1 @@
+-- No law: the functions need none.
