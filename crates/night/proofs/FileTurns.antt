@@ -1,11 +1,10 @@
 -- One file, and the loop over the files: the table and the room after the first k files, and one more. Assumes nothing.
 use Prim.Native.Nat.{ℕ, _+_, _-_, _≤_, _<_}
 use mathlib.Core.Path.{_≡_, refl, sym, ap, ap₂, _∙_}
-use mathlib.Core.List.{List, _++_, append-nil}
+use mathlib.Core.List.{List, _++_}
 use native.Mathlib.Omega.{arith}
-use lib.ListN.{length, take, drop, set, length-drop}
-use lib.Seq.{take-all, drop-length}
-use borrow.Rule.Slice.PartMut.{midOf, putMid, post-is}
+use lib.ListN.{length, take, drop, set}
+use borrow.Rule.Slice.PartMut.{midOf, putMid}
 use Rattle.checker.specs.Meanings.{verdictMeant}
 use Rattle.checker.specs.declared.verdict.Verdict.{Verdict}
 use Rattle.definition.proofs.LaidLists.{laid}
@@ -19,6 +18,7 @@ use Rattle.definition.specs.32-Numbers.{verdictEntry}
 use Rattle.definition.specs.36-Night.{pairOffset, pairLength, pairEnd, pairChecks, fileAt, entriesOf, Night, told, night}
 use Rattle.definition.specs.45-Promises.{Answered}
 use Rattle.definition.specs.71-Nights.{NightLent, nightOf, Sound, filesIn, file, began, alone, NightAnswered}
+use Rattle.words.proofs.LentParts.{lent-part, part-back}
 use Rattle.night.specs.Nights.{CheckedAlone, AllTold}
 
 -- The bytes between the ends that a pair has are its file's.
@@ -29,13 +29,6 @@ module _ (files list : List ℕ) (k : ℕ) {a e : ℕ} (begins : a ≡ pairOffse
 
   pub checked-alone : {room after : List ℕ} {r : Verdict} → Answered (λ v. v) (midOf a (e - a) files) room (verdictMeant r) after → CheckedAlone (fileAt files list k) room r after
   checked-alone {room} h = record { is = answer-is (λ v. v) h ∙ ap (λ (s : List ℕ). outcome s room .verdict) its-bytes; room-is = room-is (λ v. v) h ∙ ap (λ (s : List ℕ). outcome s room .room) its-bytes }
-
--- The part of the room from d on, lent, and back with other entries.
-lent-part : (d : ℕ) (l : List ℕ) → midOf d (length l - d) l ≡ drop d l
-lent-part d l = take-all (length l - d) (drop d l) (omega (arith, length-drop d l))
-
-part-back : (d : ℕ) (l after : List ℕ) → d ≤ length l → putMid d (length l - d) l after ≡ take d l ++ after
-part-back d l after le = ap (λ (x : List ℕ). take d l ++ (after ++ x)) (post-is d (length l) l le ∙ drop-length l) ∙ ap (λ (x : List ℕ). take d l ++ x) (append-nil after)
 
 module _ (i : NightLent) where
   -- The first k files are told, and d is where the passes among them stopped writing.

@@ -1,16 +1,17 @@
 -- The numbers at which a test holds, listed from the front: those of the first a + b are those of the first a, then those of the next b.
 -- So a loop may count and write them as it meets them. Assumes nothing.
 use Prim.Native.Nat.{ℕ, zero, suc, _+_, _-_, _≤_, _<_}
-use mathlib.Core.Path.{_≡_, refl, sym, ap, ap₂, _∙_}
+use mathlib.Core.Path.{_≡_, refl, sym, ap, _∙_}
 use mathlib.Core.Bool.{Bool, true, false, cond}
 use mathlib.Core.List.{List, [], _∷_, _++_, append-nil, append-assoc}
 use native.Mathlib.Nat.{add-zero, zero-add, suc-add}
 use native.Mathlib.Numerals.{add-one}
 use native.Mathlib.Omega.{arith}
 use lib.ListN.{length, getD, take, drop, set, length-append, length-drop}
-use lib.Seq.{drop-cons, set-append-seam, append-snoc, take-all, take-at, drop-at, drop-drop, drop-length}
-use borrow.Rule.Slice.PartMut.{midOf, putMid, post-is}
+use lib.Seq.{drop-cons, set-append-seam, append-snoc, take-at, drop-at, drop-drop}
+use borrow.Rule.Slice.PartMut.{midOf, putMid}
 use Rattle.definition.specs.02-Ranges.{members}
+use Rattle.words.proofs.LentParts.{lent-part, part-back}
 
 module _ (p : ℕ → Bool) where
   head : (b : Bool) (x : ℕ) (r s : List ℕ) → cond b (x ∷ (r ++ s)) (r ++ s) ≡ cond b (x ∷ r) r ++ s
@@ -63,10 +64,9 @@ front-two xs ys l m e d is first second =
     let kept : take d m ≡ xs = ap (take d) first ∙ take-at xs (drop (length xs) l) d (sym is) in
     let rest : drop d m ≡ drop d l =
     ap (drop d) first ∙ drop-at xs (drop (length xs) l) d (sym is) ∙ ap (λ (k : ℕ). drop k l) (sym is) in
-    let lent : midOf d (length m - d) m ≡ drop d l =
-    take-all (length m - d) (drop d m) (omega (arith, length-drop d m)) ∙ rest in
-    let end = post-is d (length m) m (omega arith) ∙ drop-length m in
-    ap₂ (λ (a b : List ℕ). a ++ (e ++ b)) kept end
+    let lent : midOf d (length m - d) m ≡ drop d l = lent-part d m ∙ rest in
+    part-back d m e (omega arith)
+    ∙ ap (λ (a : List ℕ). a ++ e) kept
     ∙ ap (λ (a : List ℕ). xs ++ a)
-    (append-nil e ∙ second ∙ ap (λ (r : List ℕ). ys ++ drop (length ys) r) lent ∙ ap (λ (r : List ℕ). ys ++ r) (drop-drop (length ys) d l))
+    (second ∙ ap (λ (r : List ℕ). ys ++ drop (length ys) r) lent ∙ ap (λ (r : List ℕ). ys ++ r) (drop-drop (length ys) d l))
     ∙ sym (append-assoc xs ys (drop (d + length ys) l))

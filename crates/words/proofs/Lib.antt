@@ -1,2 +1,3 @@
--- Laws of loops.
+-- Laws of loops, and of a table's part that is lent.
+pub mod LentParts
 pub mod Searches
