@@ -18,7 +18,7 @@ use Rattle.definition.proofs.StruckFile.{same_from, same_count, same_rows, same_
 use Rattle.definition.proofs.Tests.{not_both}
 use Rattle.definition.proofs.UnseenRows.{unseen_rows_are_unseen, as_if_struck}
 use Rattle.definition.specs.03-Lists.{begins}
-use Rattle.definition.specs.04-Checks.{single, Checked, accepts, refuses, ◌>>◌, in_order, Fails, AllHold, FirstFault, here}
+use Rattle.definition.specs.04-Checks.{single, Checked, accepts, refuses, ◌>>◌, in_order, Fails, AllHold, FirstFault, here, later}
 use Rattle.definition.specs.11-Layout.{agent_of, layout_checks}
 use Rattle.definition.specs.14-Book.{book_checks}
 use Rattle.definition.specs.15-Records.{Log, log_of, observers_in, log_checks, record_checks}
@@ -90,6 +90,7 @@ module _ (s room : List ℕ) where
   room_fault : {n p : ℕ} → FirstFault (index_room_checks (log_of s) (length room)) n p → (n ≡ 29) × (p ≡ length index) × (length room < p)
   unfolding index_room_checks
   room_fault (here f) = (sym f.0, sym f.1, omega (arith, f.1, ltb-true (length room) (length index) f.2))
+  room_fault (later _ f) = elim f [ ]
 
   fault_room : {p : ℕ} → p ≡ length index → length room < p → FirstFault (index_room_checks (log_of s) (length room)) 29 p
   unfolding index_room_checks

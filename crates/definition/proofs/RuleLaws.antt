@@ -24,7 +24,7 @@ use Rattle.definition.specs.15-Records.{is_duty}
 use Rattle.definition.specs.16-Views.{RowView, hidden, struck, shows}
 use Rattle.definition.specs.04-Checks.{AllHold}
 use Rattle.definition.specs.17-Case.{Case}
-use Rattle.definition.specs.21-Rules.{first, second, is_that, same_all, conclusion, row_conclusion, suppose, condition_row, seen_row, say, refine, owner, and_intro, and_left, and_right, implies_intro, implies_elim, duty_intro, duty_by_obligation, duty_by_label, admits_parameter, admits_term, body_with, for_all_intro, for_all_elim, rule, rules, rule_at}
+use Rattle.definition.specs.21-Rules.{first, second, is_that, same_all, conclusion, row_conclusion, suppose, condition_row, seen_row, say, refine, owner, and_intro as and_intro_test, and_left, and_right, implies_intro, implies_elim, duty_intro, duty_by_obligation, duty_by_label, admits_parameter, admits_term, body_with, for_all_intro, for_all_elim, rule, rules, rule_at}
 use Rattle.definition.specs.22-Steps.{Labels, citation_checks, must_be_absent, is_none, cites_absent, cites_nothing, is_a_row, is_an_obligation, is_hidden, is_struck, cites_hidden, cites_struck, is_each_use, is_adding, leaves}
 use Rattle.definition.specs.41-Occurrences.{Mentions, MentionsDataVariable, Instance}
 use Rattle.definition.specs.42-Account as account
@@ -140,7 +140,7 @@ module _ (c : Case) (f : Formula) (a : ℕ) (fs : List Formula) (L : Labels) whe
   the_label e m g = record { inside = inside _ _ e; mark_is = m; formula_is = g }
 
   follows : {r : ℕ} → Numbered r → Tests c r f a fs L → Step-follows c r f a fs L
-  unfolding rule_at rules rule suppose cites_nothing citation_checks leaves spends is_an_obligation with_label condition_row seen_row cites_hidden cites_struck is_a_row row_conclusion say must_be_absent refine owner and_intro and_left and_right implies_intro without_label implies_elim duty_intro duty_by_obligation duty_by_label is_adding is_each_use admits_parameter admits_term body_with for_all_intro for_all_elim
+  unfolding rule_at rules rule suppose cites_nothing citation_checks leaves spends is_an_obligation with_label condition_row seen_row cites_hidden cites_struck is_a_row row_conclusion say must_be_absent refine owner and_intro_test and_left and_right implies_intro without_label implies_elim duty_intro duty_by_obligation duty_by_label is_adding is_each_use admits_parameter admits_term body_with for_all_intro for_all_elim
   follows rule_0 t =
       let h = and_true _ _ t.fits in
       moved refl refl (none_of fs t.most) (account.suppose (the_label t.cites.1.0 (eqb-true _ _ h.0) (sym (same_true _ _ h.1))))
@@ -270,7 +270,7 @@ by {r} e cites fits =
 pub followed :
     (c : Case) → Small c → {r a : ℕ} {f : Formula} {fs : List Formula} {L M : Labels} {u : List ℕ} →
     Follows c r f a fs L M u → Followed c r f a fs L M u
-unfolding rule_at rules rule must_be_absent cites_absent cites_nothing cites_hidden cites_struck is_a_row citation_checks is_adding leaves spends is_an_obligation is_none is_hidden is_struck is_each_use with_label without_label first second first_part second_part source target sort_of suppose condition_row seen_row say refine owner and_intro and_left and_right implies_intro implies_elim duty_intro duty_by_obligation duty_by_label admits_parameter admits_term body_with for_all_intro for_all_elim is_that row_conclusion faulty
+unfolding rule_at rules rule must_be_absent cites_absent cites_nothing cites_hidden cites_struck is_a_row citation_checks is_adding leaves spends is_an_obligation is_none is_hidden is_struck is_each_use with_label without_label first second first_part second_part source target sort_of suppose condition_row seen_row say refine owner and_intro_test and_left and_right implies_intro implies_elim duty_intro duty_by_obligation duty_by_label admits_parameter admits_term body_with for_all_intro for_all_elim is_that row_conclusion faulty
 followed c small (account.suppose l) =
     by (rw l.mark_is) (entry_cited l.inside small.labels) (and_intro (eq-eqb _ 0 l.mark_is) (same_of _ _ (sym l.formula_is)))
 followed c small (account.condition_row {a} {f} h e) =

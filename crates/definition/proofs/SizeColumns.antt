@@ -97,6 +97,7 @@ module _ (s lent : List ℕ) (lent_is : length lent ≡ 1024) where
   at_fault (here q) = rw (← q.0, ← q.1) (misshapen (column_kept s lent q.2))
   at_fault (later whole (here q)) = rw (← q.0) (bad_row (below_told s lent lent_is whole q.1))
   at_fault (later whole (later good (here q))) = rw (← q.0) (repeated (all_told s lent lent_is whole good))
+  at_fault (later _ (later _ (later _ q))) = elim q [ ]
 
   by_answer : (r : Checked (Unit {0})) → book_admission s ≡ r → ColumnAfter s lent (size_column s lent) r
   unfolding book_admission book_checks

@@ -16,7 +16,7 @@ use Rattle.definition.proofs.Tests.{and_true, or_false, never_true}
 use Rattle.definition.specs.01-Words.{word, words, absent}
 use Rattle.definition.specs.02-Ranges.{any, listed, update}
 use Rattle.definition.specs.03-Lists.{join_all}
-use Rattle.definition.specs.04-Checks.{each, Fails, AllHold, FirstFault, here}
+use Rattle.definition.specs.04-Checks.{each, Fails, AllHold, FirstFault, here, later}
 use Rattle.definition.specs.11-Layout.{header_bytes, formula_part, log_part, observer_part, condition_part, obligation_part, label_part, step_part, premise_part, record_bytes, agent_of, action_of, hour_of, offset, part, records_in, field_in, due_offset, bad_length, faulty_part, end}
 use Rattle.definition.specs.13-Formulas.{Formula}
 use Rattle.definition.specs.15-Records.{Log, log_of, rows_in, observers_in, row_action, row_from, row_count, bad_span, bad_observer, bad_action, bad_log_row, log_checks}
@@ -167,6 +167,7 @@ module _ (g : Log) (agent : ℕ) where
       (λ bad. inl (here (let w : Fails (each 5 (rows_in struck) (bad_log_row struck l)) n p = (f.0, (rw same_rows f.1.0, bad, λ q lt. row_stays_good l q (omega (arith, f.1.0)) (f.1.2 q lt))) in w)))
       (λ m. inr (sym f.0, m))
       (row_stays_bad l p f.1.0 f.1.1)
+  log_stays_bad l n p (later h f) = elim f [ ]
 
 -- A file that check 1 or 2 refuses stays as it is.
 pub struck_or_parted : (s : List ℕ) → (strike s ≡ s) ⊎ Parted s

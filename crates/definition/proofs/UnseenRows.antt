@@ -36,10 +36,12 @@ layout_numbers : (s : List ℕ) {n p : ℕ} → FirstFault (layout_checks s) n p
 unfolding layout_checks
 layout_numbers s (here f) = inl (sym f.0)
 layout_numbers s (later h (here f)) = inr (inl (sym f.0))
+layout_numbers s (later h (later _ f)) = elim f [ ]
 
 log_numbers : (s : List ℕ) {n p : ℕ} → FirstFault (log_checks_lem s) n p → LeftAside n
 unfolding log_checks
 log_numbers s (here f) = inr (inr (omega (arith, f.0)))
+log_numbers s (later _ f) = elim f [ ]
 
 -- A run that begins with checks 1 to 5, whatever follows them, if that is the same for files that share all but the log.
 module _ {A : Type 0} (rest : List ℕ → Checked A) (same_rest : (s t : List ℕ) → Same s t → rest s ≡ rest t) where
