@@ -1,4 +1,5 @@
 // Case files: what their numbers name, the log, the records, and checks 1 to 9 in order.
+#![tactic(auto)]
 mod admission;
 mod formula_numbers;
 mod log_checks;

@@ -1,4 +1,5 @@
 // The program: a case on standard input, its verdict on standard output.
+#![tactic(auto)]
 mod input;
 mod report;
 mod text;

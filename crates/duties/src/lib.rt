@@ -1,4 +1,5 @@
 // The duties of a case: checks 31 and 32.
+#![tactic(auto)]
 mod kept;
 mod named;
 

@@ -1,4 +1,5 @@
 // The rows of a book of formulas, and the terms in their fields.
+#![tactic(auto)]
 mod nodes;
 mod rows;
 mod sought;

@@ -1,2 +1,3 @@
 // The library: what C and Rust programs call, and nothing else.
+#![tactic(auto)]
 mod exports;

@@ -1,4 +1,5 @@
 // The index of a log by observer: building it, and the check of a case through it.
+#![tactic(auto)]
 mod building;
 mod heads;
 mod log_rows;

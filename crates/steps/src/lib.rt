@@ -1,4 +1,5 @@
 // One step of a justification: its checks in order, what it uses, and what it leaves behind.
+#![tactic(auto)]
 mod fresh;
 mod refining;
 mod step;

@@ -1,4 +1,6 @@
 // Numbers of 16 and of 32 bits in bytes, the low byte first; and what a run of checks comes to.
+#![tactic(auto)]
+
 mod runs;
 
 ghost use Rattle.std.specs.Prelude.{◌≡◌, ◌+◌, ◌≤◌, length};
