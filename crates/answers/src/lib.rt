@@ -11,7 +11,7 @@ use words::{Counted, Failure};
 
 // A verdict: its kind, then the two values of the case, 0 where it has none.
 #[repr(C)]
-#[derive(Drop)]
+#[derive(Clone, Copy)]
 pub struct VerdictNumbers {
     pub kind: u16,
     pub first: u16,
@@ -20,7 +20,7 @@ pub struct VerdictNumbers {
 
 // What a run of checks comes to: the number and place of the first that fails, or 0 and 0.
 #[repr(C)]
-#[derive(Drop)]
+#[derive(Clone, Copy)]
 pub struct RunNumbers {
     pub number: u16,
     pub place: u16,

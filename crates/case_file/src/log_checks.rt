@@ -16,7 +16,7 @@ use formula_rows::{Sort, Term};
 use words::Failure;
 
 // What a list of observers says of its row.
-#[derive(Drop)]
+#[derive(Clone, Copy)]
 enum Listed {
     Faulty,
     Unseen,
@@ -24,14 +24,14 @@ enum Listed {
 }
 
 // What a row comes to: a fault, or what the table has for it and where its span ends.
-#[derive(Drop)]
+#[derive(Clone, Copy)]
 enum Told {
     Faulty,
     As(u16, usize),
 }
 
 // What the agent sees of a row: nothing, that it is struck, or the action with this number.
-#[derive(Drop)]
+#[derive(Clone, Copy)]
 pub enum View {
     Hidden,
     Struck,

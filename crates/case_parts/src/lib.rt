@@ -1,5 +1,6 @@
 // The parts of a case file: checks 1 and 2, and the records.
 #![tactic(auto)]
+
 mod layout;
 mod records;
 

@@ -30,7 +30,7 @@ fn record_in(file: &[u8], p: usize, k: usize) -> &[u8]
 }
 
 // A log row: its action, and where its observers begin and how many they are.
-#[derive(Drop)]
+#[derive(Clone, Copy)]
 pub struct LogRow {
     pub action: u16,
     pub from: u16,
@@ -69,7 +69,7 @@ pub fn condition_formula(file: &[u8], k: usize) -> u16
 }
 
 // An obligation: its mark, its action, the hour by which it is due, and the log row that did it, or 65,535.
-#[derive(Drop)]
+#[derive(Clone, Copy)]
 pub struct Obligation {
     pub mark: u16,
     pub action: u16,
@@ -91,7 +91,7 @@ pub fn obligation_at(file: &[u8], k: usize) -> Obligation
 }
 
 // A label: its mark, and its policy or action.
-#[derive(Drop)]
+#[derive(Clone, Copy)]
 pub struct Label {
     pub mark: u16,
     pub formula: u16,
@@ -109,7 +109,7 @@ pub fn label_at(file: &[u8], k: usize) -> Label
 }
 
 // A step: its rule, formula and argument, and where its premises begin and how many they are.
-#[derive(Drop)]
+#[derive(Clone, Copy)]
 pub struct Step {
     pub rule: u16,
     pub formula: u16,

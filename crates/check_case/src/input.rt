@@ -7,7 +7,7 @@ use crate::text::put_word;
 use libc::STDIN_FILENO;
 
 // What came of reading: so many bytes at the start of the buffer and there may be more, so many and all is read, or a read that failed.
-#[derive(Drop)]
+#[derive(Clone, Copy)]
 pub enum Reading {
     More(usize),
     Whole(usize),

@@ -21,7 +21,7 @@ use report::report;
 const MOST_READ: usize = LARGEST_FILE + 1;
 
 // What there is to print: a text of so many bytes, or nothing.
-#[derive(Drop)]
+#[derive(Clone, Copy)]
 enum Told {
     Text(usize),
     Nothing,

@@ -45,7 +45,7 @@ pub fn is_ground(book: &[u8], row: usize) -> bool
 }
 
 // What is told of the data of a formula: how many there are, or, where a data variable stands in it, the lowest row that itself holds one.
-#[derive(Drop)]
+#[derive(Clone, Copy)]
 pub enum Data {
     Listed(usize),
     Stray(u16),

@@ -8,7 +8,7 @@ ghost use Rattle.formula_book.specs.RowTrees.{Bucket, key_of, Linked, Spotted};
 use formula_rows::Row;
 
 // What a row's walk through its tree comes to: a row that it repeats, or the slot that is free for it.
-#[derive(Drop)]
+#[derive(Clone, Copy)]
 enum Spot {
     Repeated,
     Free(usize),

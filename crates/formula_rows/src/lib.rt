@@ -1,5 +1,6 @@
 // The rows of a book of formulas, and the terms in their fields.
 #![tactic(auto)]
+
 mod nodes;
 mod rows;
 mod sought;

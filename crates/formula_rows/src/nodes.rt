@@ -5,7 +5,7 @@ ghost use Rattle.formula_rows.specs.Meanings.{row_meant, node_meant};
 
 use crate::rows::Row;
 
-#[derive(Drop)]
+#[derive(Clone, Copy)]
 pub enum Node {
     Leaf(u16, u16, u16),
     Said(u16, u16, u16),

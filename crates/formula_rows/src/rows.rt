@@ -3,7 +3,7 @@ ghost use Rattle.std.specs.Prelude.{◌≡◌, ◌+◌, ◌*◌, ◌≤◌, leng
 ghost use Rattle.definition.specs.14-Book.{row_at, same_row};
 ghost use Rattle.formula_rows.specs.Meanings.{row_meant};
 
-#[derive(Drop)]
+#[derive(Clone, Copy)]
 pub struct Row {
     pub kind: u8,
     pub code: u8,

@@ -6,7 +6,7 @@ ghost use Rattle.formula_rows.specs.Meanings.{sort_meant, sought_meant};
 
 use crate::terms::{Sort, Term};
 
-#[derive(Drop)]
+#[derive(Clone, Copy)]
 pub enum Sought {
     Term(u16),
     Parameter,

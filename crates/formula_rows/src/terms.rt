@@ -3,7 +3,7 @@ ghost use Rattle.std.specs.Prelude.{◌≡◌, ◌<◌, ◌≤◌};
 ghost use Rattle.definition.specs.12-Terms.{same_sort, class_of, is_object, is_parameter, is_variable, is_free, is_bound};
 ghost use Rattle.formula_rows.specs.Meanings.{sort_meant, term_meant};
 
-#[derive(Drop)]
+#[derive(Clone, Copy)]
 pub enum Sort {
     Agents,
     Data,
@@ -26,7 +26,7 @@ impl Sort {
     }
 }
 
-#[derive(Drop)]
+#[derive(Clone, Copy)]
 pub enum Term {
     Object(Sort),
     Parameter(Sort),

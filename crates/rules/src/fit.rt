@@ -21,7 +21,7 @@ use formula_rows::Row;
 use words::Failure;
 
 // What a rule asks of a premise: its kind, and of three that the agent is the target, the source or the owner.
-#[derive(Drop)]
+#[derive(Clone, Copy)]
 pub enum Asked {
     Anything,
     SaysToAgent,
@@ -34,7 +34,7 @@ pub enum Asked {
 }
 
 // What a premise is looked at for: its kind, or whether this agent is the party asked.
-#[derive(Drop)]
+#[derive(Clone, Copy)]
 pub enum Regard {
     Kind,
     Party(u16),

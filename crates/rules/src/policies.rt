@@ -11,7 +11,7 @@ use crate::comparisons::is_row;
 use formula_rows::{Row, Term};
 
 // No policy, or the one of this row.
-#[derive(Drop)]
+#[derive(Clone, Copy)]
 pub enum Policy {
     Nothing,
     Of(Row),

@@ -313,7 +313,7 @@ fn owned(
 }
 
 // What rule 5 comes to: the lowest row that itself holds a data variable, where one stands in the formula, or whether the step fits.
-#[derive(Drop)]
+#[derive(Clone, Copy)]
 pub enum Ownership {
     Stray(u16),
     Judged(bool),

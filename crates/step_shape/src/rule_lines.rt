@@ -4,7 +4,7 @@ ghost use Rattle.definition.specs.21-Rules.{rule_at};
 ghost use Rattle.step_shape.specs.RuleLines.{rule_shape, shape_of};
 ghost use Rattle.step_shape.specs.Meanings.{names_meant, effect_meant, shape_meant};
 
-#[derive(Drop)]
+#[derive(Clone, Copy)]
 pub enum Names {
     Nothing,
     Label,
@@ -14,14 +14,14 @@ pub enum Names {
     Term,
 }
 
-#[derive(Drop)]
+#[derive(Clone, Copy)]
 pub enum Effect {
     Keeps,
     Adds,
     Closes,
 }
 
-#[derive(Drop)]
+#[derive(Clone, Copy)]
 pub struct Shape {
     pub names: Names,
     pub least: u16,

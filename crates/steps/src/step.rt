@@ -137,7 +137,7 @@ fn check_uses(
 }
 
 // What a step comes to: the first of its checks that fails, and what its premises rest on together, nothing where one of 12 to 16 fails.
-#[derive(Drop)]
+#[derive(Clone, Copy)]
 pub struct Judged {
     pub fault: Failure,
     pub above: Resting,

@@ -17,7 +17,7 @@ use step_shape::{Effect, Names, Shape};
 use tables::{OpenSet, Resting, rests_at};
 
 // What the premises of a step rest on together, and whether two of them leave the same each-use label open.
-#[derive(Drop)]
+#[derive(Clone, Copy)]
 pub struct Above {
     pub rests: Resting,
     pub shared: bool,

@@ -1,5 +1,6 @@
 // Sets of labels and what a step rests on, by value; the table of what the steps leave behind, and tables of flags.
 #![tactic(auto)]
+
 mod flags;
 mod left;
 mod open_set;

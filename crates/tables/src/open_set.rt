@@ -3,7 +3,7 @@ ghost use Rattle.std.specs.Prelude.{◌≡◌, true, false, ◌&&◌, ◌||◌, 
 ghost use Rattle.definition.specs.02-Ranges.{any, update};
 ghost use Rattle.tables.specs.Sets.{labels_of};
 
-#[derive(Drop)]
+#[derive(Clone, Copy)]
 pub struct OpenSet {
     pub bits: u32,
 }

@@ -7,7 +7,7 @@ ghost use Rattle.tables.specs.Sets.{labels_of, rests_meant};
 use crate::open_set::OpenSet;
 
 // The labels that it leaves open, and whether it or a step above it cites evidence: a log row, condition or obligation.
-#[derive(Drop)]
+#[derive(Clone, Copy)]
 pub struct Resting {
     pub opens: OpenSet,
     pub cites: bool,
