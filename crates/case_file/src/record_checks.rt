@@ -4,7 +4,7 @@ ghost use Rattle.definition.specs.02-Ranges.{lowest};
 ghost use Rattle.definition.specs.04-Checks.{in_order};
 ghost use Rattle.definition.specs.11-Layout.{count, condition_part, obligation_part, label_part};
 ghost use Rattle.case_file.specs.Booked.{Booked};
-ghost use Rattle.definition.specs.15-Records.{log_of, rows_in, formulas as formulasOf, is_duty, bad_condition, bad_row_named, bad_obligation, bad_label, bad_audit, record_checks};
+ghost use Rattle.definition.specs.15-Records.{log_of, rows_in, formulas as formulas_of, is_duty, bad_condition, bad_row_named, bad_obligation, bad_label, bad_audit, record_checks};
 ghost use Rattle.words.specs.Meanings.{failure_meant};
 ghost use Rattle.case_file.specs.Entries.{bad_entry};
 
@@ -20,7 +20,7 @@ use words::Failure;
 fn bad_condition(file: &[u8], book: &[u8], k: usize) -> bool
     requires booked { Booked file.now book.now }
     requires k_bound { k < count file.now condition_part }
-    ensures { result ≡ bad_condition file.now (formulasOf file.now) k }
+    ensures { result ≡ bad_condition file.now (formulas_of file.now) k }
 {
     let condition = condition_formula(file, k);
     if condition == Term::ABSENT {
@@ -53,7 +53,7 @@ fn bad_row_named(rows: usize, row: u16) -> bool
 fn bad_obligation(file: &[u8], book: &[u8], k: usize) -> bool
     requires booked { Booked file.now book.now }
     requires k_bound { k < count file.now obligation_part }
-    ensures { result ≡ bad_obligation file.now (formulasOf file.now) (rows_in (log_of file.now)) k }
+    ensures { result ≡ bad_obligation file.now (formulas_of file.now) (rows_in (log_of file.now)) k }
 {
     let duty = obligation_at(file, k);
     if !is_duty(duty.mark) {
@@ -72,7 +72,7 @@ fn bad_obligation(file: &[u8], book: &[u8], k: usize) -> bool
 fn bad_label(file: &[u8], book: &[u8], k: usize) -> bool
     requires booked { Booked file.now book.now }
     requires k_bound { k < count file.now label_part }
-    ensures { result ≡ bad_label file.now (formulasOf file.now) k }
+    ensures { result ≡ bad_label file.now (formulas_of file.now) k }
 {
     let label = label_at(file, k);
     if label.mark == 0 {
@@ -88,7 +88,7 @@ fn bad_label(file: &[u8], book: &[u8], k: usize) -> bool
 fn bad_entry(file: &[u8], book: &[u8], p: usize, k: usize) -> bool
     requires booked { Booked file.now book.now }
     requires condition_part_le_p { (condition_part ≤ p) × (p ≤ label_part) × (k < count file.now p) }
-    ensures { result ≡ bad_entry file.now (formulasOf file.now) p k }
+    ensures { result ≡ bad_entry file.now (formulas_of file.now) p k }
 {
     if p == CONDITIONS {
         return bad_condition(file, book, k);
@@ -103,7 +103,7 @@ fn bad_entry(file: &[u8], book: &[u8], p: usize, k: usize) -> bool
 fn first_bad(file: &[u8], book: &[u8], p: usize) -> usize
     requires booked { Booked file.now book.now }
     requires condition_part_le_p { (condition_part ≤ p) × (p ≤ label_part) }
-    ensures { result ≡ lowest (bad_entry file.now (formulasOf file.now) p) (count file.now p) 0 }
+    ensures { result ≡ lowest (bad_entry file.now (formulas_of file.now) p) (count file.now p) 0 }
 {
     let n = count_of(file, p);
     let mut k: usize = 0;
@@ -119,7 +119,7 @@ fn first_bad(file: &[u8], book: &[u8], p: usize) -> usize
 // Check 9: is the agent no agent, the action no ground action, or the audit hour absent?
 fn bad_audit(file: &[u8], book: &[u8]) -> bool
     requires { Booked file.now book.now }
-    ensures { result ≡ bad_audit file.now (formulasOf file.now) }
+    ensures { result ≡ bad_audit file.now (formulas_of file.now) }
 {
     let agent = agent_of(file);
     if Term::AGENTS_END <= agent {

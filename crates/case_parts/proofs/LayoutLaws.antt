@@ -1,7 +1,7 @@
 -- The layout as the code reads it: the tests of check 2 first to last, and the bytes of a part that is in its place and of its records. Assumes nothing.
 use Prim.Native.Nat.{ℕ, zero, suc, ◌+◌, ◌*◌, ◌-◌, ◌/◌, ◌%◌, ◌≤◌, ◌<◌}
 use mathlib.Core.Path.{◌≡◌, sym}
-use mathlib.Core.Bool.{true, false, or_false as or_none}
+use mathlib.Core.Bool.{true, false, or-false as or_none}
 use mathlib.Core.List.{List}
 use native.Mathlib.Nat.{mul-le-mul_left, mul-div-le, mul-suc}
 use native.Mathlib.Omega.{arith}

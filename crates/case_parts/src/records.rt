@@ -1,7 +1,7 @@
 // The records, each read whole, and the test of a span.
 ghost use Rattle.std.specs.Prelude.{◌≡◌, ◌<◌, ◌≤◌};
 ghost use Rattle.definition.specs.11-Layout.{log_part, observer_part, condition_part, obligation_part, label_part, step_part, premise_part, count, records_in, part as part_of};
-ghost use Rattle.definition.specs.15-Records.{observer as observerOf, condition_formula, premise_step, span_fault};
+ghost use Rattle.definition.specs.15-Records.{observer as observer_of, condition_formula, premise_step, span_fault};
 ghost use Rattle.definition.specs.18-Admission.{Parted};
 ghost use Rattle.case_parts.specs.Records.{Recorded, RowFields, ObligationFields, LabelFields, StepFields};
 
@@ -53,7 +53,7 @@ pub fn log_row_at(rows: &[u8], k: usize) -> LogRow
 // Observer entry `j` of a log, whose observers have these bytes.
 pub fn observer(observers: &[u8], j: usize) -> u16
     requires { j < records_in observers.now observer_part }
-    ensures { result ≡ observerOf observers.now j }
+    ensures { result ≡ observer_of observers.now j }
 {
     let bytes = record_of(observers, OBSERVERS, j);
     read_word(bytes, 0)

@@ -4,9 +4,9 @@ ghost use Rattle.definition.specs.02-Ranges.{lowest};
 ghost use Rattle.definition.specs.04-Checks.{in_order};
 ghost use Rattle.definition.specs.11-Layout.{formula_part, obligation_part, count};
 ghost use Rattle.definition.specs.14-Book.{tree_in};
-ghost use Rattle.definition.specs.15-Records.{log_of, rows_in, formulas as formulasOf, bad_row_named};
+ghost use Rattle.definition.specs.15-Records.{log_of, rows_in, formulas as formulas_of, bad_row_named};
 ghost use Rattle.definition.specs.17-Case.{row_named, case_of};
-ghost use Rattle.definition.specs.23-Duties.{done_by, undone as undoneOf, duty_checks};
+ghost use Rattle.definition.specs.23-Duties.{done_by, undone as undone_of, duty_checks};
 ghost use Rattle.words.specs.Meanings.{failure_meant};
 ghost use Rattle.case_file.specs.LentCase.{CaseLent};
 
@@ -20,7 +20,7 @@ use words::Failure;
 fn done_by(file: &[u8], book: &[u8], views: &[u16; 1024], row: u16, action: u16) -> bool
     requires case_lent { CaseLent file.now book.now views.now }
     requires row_value { (bad_row_named (rows_in (log_of file.now)) row ≡ false) × (action < count file.now formula_part) }
-    ensures { result ≡ done_by (case_of file.now) (row_named row) (tree_in (formulasOf file.now) action) }
+    ensures { result ≡ done_by (case_of file.now) (row_named row) (tree_in (formulas_of file.now) action) }
 {
     if row == Term::ABSENT {
         return false;
@@ -36,7 +36,7 @@ fn done_by(file: &[u8], book: &[u8], views: &[u16; 1024], row: u16, action: u16)
 // Check 31 of obligation `o`: is it due before the audit hour, and not done?
 fn undone(file: &[u8], book: &[u8], views: &[u16; 1024], o: usize) -> bool
     requires { CaseLent file.now book.now views.now × (o < count file.now obligation_part) }
-    ensures { result ≡ undoneOf (case_of file.now) o }
+    ensures { result ≡ undone_of (case_of file.now) o }
 {
     let duty = obligation_at(file, o);
     if duty.due < hour_of(file) {
@@ -48,7 +48,7 @@ fn undone(file: &[u8], book: &[u8], views: &[u16; 1024], o: usize) -> bool
 // The lowest obligation that is expired and not done, or how many there are.
 fn first_undone(file: &[u8], book: &[u8], views: &[u16; 1024]) -> usize
     requires { CaseLent file.now book.now views.now }
-    ensures { result ≡ lowest (undoneOf (case_of file.now)) (count file.now obligation_part) 0 }
+    ensures { result ≡ lowest (undone_of (case_of file.now)) (count file.now obligation_part) 0 }
 {
     let n = count_of(file, OBLIGATIONS);
     let mut o: usize = 0;

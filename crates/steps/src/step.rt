@@ -3,7 +3,7 @@ ghost use Rattle.std.specs.Prelude.{◌≡◌, ◌||◌, ◌<◌, length};
 ghost use Rattle.definition.specs.04-Checks.{in_order};
 ghost use Rattle.definition.specs.11-Layout.{step_part, count};
 ghost use Rattle.definition.specs.17-Case.{case_of};
-ghost use Rattle.definition.specs.22-Steps.{State, rests_in, opens_in, is_evidence, joined, premises_of, leaves as leavesOf, rests_on, rule_of, above_checks, use_checks};
+ghost use Rattle.definition.specs.22-Steps.{State, rests_in, opens_in, is_evidence, joined, premises_of, leaves as leaves_of, rests_on, rule_of, above_checks, use_checks};
 ghost use Rattle.words.specs.Meanings.{failure_meant};
 ghost use Rattle.case_parts.specs.Records.{StepFields};
 ghost use Rattle.tables.specs.Sets.{labels_of, rests_meant, rests_of};
@@ -29,7 +29,7 @@ use words::Failure;
 // The labels that a step leaves open, from those that its premises leave open.
 fn leaves(effect: Effect, argument: u16, above: OpenSet) -> OpenSet
     requires { LabelThere (effect_meant effect) argument }
-    ensures { labels_of result.bits ≡ leavesOf (effect_meant effect) argument (labels_of above.bits) }
+    ensures { labels_of result.bits ≡ leaves_of (effect_meant effect) argument (labels_of above.bits) }
 {
     match effect {
         Effect::Keeps => above,

@@ -1,12 +1,12 @@
 // Tables of flags, one for each row or obligation: how many have one, and their numbers written out.
 ghost use Rattle.std.specs.Prelude.{◌≡◌, ◌++◌, ◌+◌, ◌≤◌, length, drop};
 ghost use Rattle.definition.specs.02-Ranges.{members};
-ghost use Rattle.tables.specs.Sets.{marks as marksOf};
+ghost use Rattle.tables.specs.Sets.{marks as marks_of};
 
 // How many of the first `n` are marked.
 pub fn count_marked(flags: &[bool], n: usize) -> usize
     requires { n ≤ length flags.now }
-    ensures { (result ≡ length (members (marksOf flags.now) n 0)) × (result ≤ n) }
+    ensures { (result ≡ length (members (marks_of flags.now) n 0)) × (result ≤ n) }
 {
     let mut count: usize = 0;
     let mut k: usize = 0;
@@ -21,8 +21,8 @@ pub fn count_marked(flags: &[bool], n: usize) -> usize
 
 // The numbers of the first `n` that are marked, ascending, into the first entries of `room`. The others stay.
 pub fn write_marked(room: &mut [u16], flags: &[bool], n: usize)
-    requires { (n ≤ length flags.now) × (n ≤ 65535) × (length (members (marksOf flags.now) n 0) ≤ length room.old) }
-    ensures { room.new ≡ members (marksOf flags.now) n 0 ++ drop (length (members (marksOf flags.now) n 0)) room.old }
+    requires { (n ≤ length flags.now) × (n ≤ 65535) × (length (members (marks_of flags.now) n 0) ≤ length room.old) }
+    ensures { room.new ≡ members (marks_of flags.now) n 0 ++ drop (length (members (marks_of flags.now) n 0)) room.old }
 {
     let mut at: usize = 0;
     let mut k: usize = 0;
@@ -45,8 +45,8 @@ pub fn write_lists(
     rows: usize,
 )
     requires obligations_in_bounds { (obligations ≤ length duties.now) × (obligations ≤ 65535) × (rows ≤ length cited.now) × (rows ≤ 65535) }
-    requires d_value { (d ≡ length (members (marksOf duties.now) obligations 0)) × (d + length (members (marksOf cited.now) rows 0) ≤ length room.old) }
-    ensures { room.new ≡ members (marksOf duties.now) obligations 0 ++ members (marksOf cited.now) rows 0 ++ drop (d + length (members (marksOf cited.now) rows 0)) room.old }
+    requires d_value { (d ≡ length (members (marks_of duties.now) obligations 0)) × (d + length (members (marks_of cited.now) rows 0) ≤ length room.old) }
+    ensures { room.new ≡ members (marks_of duties.now) obligations 0 ++ members (marks_of cited.now) rows 0 ++ drop (d + length (members (marks_of cited.now) rows 0)) room.old }
 {
     write_marked(room, duties, obligations);
     write_marked(&mut room[d..], cited, rows);

@@ -4,14 +4,14 @@ use Prim.Native.Nat.{◌-◌}
 use mathlib.Core.Path.{sym, ◌∙◌}
 use native.Mathlib.Omega.{arith}
 use Rattle.definition.specs.11-Layout.{count}
-use Rattle.definition.specs.15-Records.{formulas as formulasOf}
+use Rattle.definition.specs.15-Records.{formulas as formulas_of}
 use Rattle.case_file.specs.Entries.{bad_entry}
 use Rattle.words.proofs.Searches.{Passed, passed_start, passed_more, passed_found, passed_all}
 use Rattle.case_file.proofs.record_checks.first_bad.Statement.{statement}
 use Rattle.case_file.proofs.record_checks.first_bad.Tie as tie
 
 abbrev invariant-loop : tie.invariant-loop
-invariant-loop file book p n k₀ k = Passed (bad_entry file (formulasOf file) p) (count file p) k
+invariant-loop file book p n k₀ k = Passed (bad_entry file (formulas_of file) p) (count file p) k
 
 abbrev decreases-loop : tie.decreases-loop
 decreases-loop file book p n k₀ k = n - k

@@ -1,7 +1,6 @@
 -- `count_marked` meets its contract. The loop's invariant: the count is that of the first `k`. Assumes nothing.
 use Prim.Native.Nat.{ℕ, ◌-◌}
 use mathlib.Core.Path.{◌≡◌, refl, ap, ◌∙◌}
-use mathlib.Core.Logic.{⊎_elim}
 use native.Mathlib.Omega.{arith}
 use lib.ListN.{length}
 use Rattle.definition.specs.02-Ranges.{members}
@@ -9,6 +8,7 @@ use Rattle.definition.proofs.RangeLaws.{members_length}
 use Rattle.tables.specs.Sets.{marks}
 use Rattle.tables.proofs.ListedMembers.{count_hit, members_miss}
 use Rattle.tables.proofs.flags.count_marked.Goals as goal
+use Rattle.tables.proofs.flags.count_marked.Goals.{then-flags-k, else-flags-k}
 
 pub loop-k-init : goal.loop-k-init
 unfolding members
@@ -31,10 +31,10 @@ pub loop-k-preserved : goal.loop-k-preserved
 unfolding marks
 loop-k-preserved c = let s = marks c.args.flags.now in
     let k = c.loop-k.k in
-    ⊎_elim
-    (λ w. omega (arith, count_hit s k w.0.taken))
-    (λ w. omega (arith, ap length (members_miss s k w.0.left)))
-    c.if-flags-k.branch
+    elim c.if-flags-k.branch [
+      then-flags-k w ↦ omega (arith, count_hit s k w.if-flags-k.true)
+      | else-flags-k w ↦ omega (arith, ap length (members_miss s k w.if-flags-k.false))
+    ]
 
 pub returns : goal.returns
 returns c = let a = c.args in

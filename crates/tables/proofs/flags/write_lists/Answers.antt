@@ -7,5 +7,5 @@ use Rattle.tables.proofs.flags.write_lists.Goals as goal
 
 pub returns : goal.returns
 returns c = let a = c.args in
-    front_two (members (marks a.duties.now) a.obligations 0) (members (marks a.cited.now) a.rows 0) a.room.now _ _ a.d c.requires.1.0
+    front_two (members (marks a.duties.now) a.obligations 0) (members (marks a.cited.now) a.rows 0) a.room.now _ _ a.d c.requires.d_value.0
     c.write_marked.ensures c.write_marked-2.ensures

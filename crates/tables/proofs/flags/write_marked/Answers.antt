@@ -13,13 +13,13 @@ use Rattle.tables.proofs.ListedMembers.{members_hit, count_hit, members_miss, me
 use Rattle.tables.proofs.flags.write_marked.Goals as goal
 use Rattle.tables.proofs.flags.write_marked.Goals.{Then-flags-k}
 
-place : (c : Then-flags-k invariant-loop decreases-loop) → c.before.before.before.loop.at < length c.before.before.before.before.args.room.now
+place : (c : Then-flags-k) → c.loop-k.at < length c.args.room.now
 unfolding marks
 place c =
-    let a = c.before.before.before.before.args in
-    let l = c.before.before.before.loop in
+    let a = c.args in
+    let l = c.loop-k in
     let s = marks a.flags.now in
-    omega (arith, count_hit s l.k c.if1.true, members_more s (l.k + 1) a.n (omega arith))
+    omega (arith, count_hit s l.k c.if-flags-k.true, members_more s (l.k + 1) a.n (omega arith))
 
 pub loop-k-init : goal.loop-k-init
 unfolding members

@@ -13,7 +13,7 @@ pub is_used-requires : goal.is_used-requires
 is_used-requires c = omega arith
 
 pub returns-then-not-is_used : goal.returns-then-not-is_used
-returns-then-not-is_used c = passed_found _ _ c.loop-k.invariant c.loop-k-test.true (ap not (sym c.is_used.ensures) ∙ c.if-not-is_used.true)
+returns-then-not-is_used c = passed_found _ _ c.loop-k.invariant c.loop-k-test.true (ap not (sym c.is_used.ensures ∙ c.if-not-is_used.true))
 
 pub overflow_add-k : goal.overflow_add-k
 overflow_add-k c = omega arith
@@ -22,7 +22,7 @@ pub loop-k-smaller : goal.loop-k-smaller
 loop-k-smaller c = omega arith
 
 pub loop-k-preserved : goal.loop-k-preserved
-loop-k-preserved c = passed_more _ _ c.loop-k.invariant c.loop-k-test.true (ap not (sym c.is_used.ensures) ∙ c.if-not-is_used.false)
+loop-k-preserved c = passed_more _ _ c.loop-k.invariant c.loop-k-test.true (ap not (sym c.is_used.ensures ∙ c.if-not-is_used.false))
 
 pub returns : goal.returns
 returns c = passed_all _ _ c.loop-k.invariant c.loop-k-test.false
