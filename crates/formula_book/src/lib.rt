@@ -1,5 +1,6 @@
 // The formula book: checks 3 and 4, and what the rules ask of a formula.
 #![tactic(auto)]
+
 mod admission;
 mod answers;
 mod fields;

@@ -3,7 +3,6 @@
 use Prim.Native.Nat.{ℕ, ◌+◌, ◌-◌, ◌<◌}
 use mathlib.Core.Path.{◌≡◌, refl, sym, ap, ap₂, ◌∙◌}
 use mathlib.Core.List.{List, ◌++◌}
-use mathlib.Core.Logic.{⊎_elim}
 use native.Mathlib.Omega.{arith}
 use lib.ListN.{length, drop, set}
 use Rattle.definition.specs.02-Ranges.{members}
@@ -11,7 +10,7 @@ use Rattle.definition.proofs.RangeLaws.{members_length}
 use Rattle.tables.specs.Sets.{marks}
 use Rattle.tables.proofs.ListedMembers.{members_hit, count_hit, members_miss, members_more, front_length, front_more}
 use Rattle.tables.proofs.flags.write_marked.Goals as goal
-use Rattle.tables.proofs.flags.write_marked.Goals.{Then-flags-k}
+use Rattle.tables.proofs.flags.write_marked.Goals.{Then-flags-k, then-flags-k, else-flags-k}
 
 place : (c : Then-flags-k) → c.loop-k.at < length c.args.room.now
 unfolding marks
@@ -58,20 +57,20 @@ loop-k-preserved c = let a = c.args in
     let l = c.loop-k in
     let s = marks a.flags.now in
     let after : List ℕ → List ℕ = λ xs. xs ++ drop (length xs) a.room.now in
-    ⊎_elim
-    (λ w.
-    let lt = place (record { before = (goal.at.loop-k-preserved c).After-shared_slice_known-1; if1 = w.0 }) in (
-      omega arith,
-      omega (arith, count_hit s l.k w.0.taken),
-      w.1 ∙ ap₂ (λ (r : List ℕ) (t : ℕ). set r t l.k) l.invariant.2 l.invariant.1
-          ∙ front_more (members s l.k 0) a.room.now l.k (omega arith) ∙ sym (ap after (members_hit s l.k w.0.taken)),
-    ))
-    (λ w. (
-      omega arith,
-      omega (arith, ap length (members_miss s l.k w.0.left)),
-      w.1 ∙ l.invariant.2 ∙ sym (ap after (members_miss s l.k w.0.left)),
-    ))
-    c.if-flags-k.branch
+    elim c.if-flags-k.branch [
+      then-flags-k w ↦
+          let lt : l.at < length a.room.now = omega (arith, count_hit s l.k w.if-flags-k.true, members_more s (l.k + 1) a.n (omega arith)) in (
+            omega arith,
+            omega (arith, count_hit s l.k w.if-flags-k.true),
+            w.room-is ∙ ap₂ (λ (r : List ℕ) (t : ℕ). set r t l.k) l.invariant.2 l.invariant.1
+                ∙ front_more (members s l.k 0) a.room.now l.k (omega arith) ∙ sym (ap after (members_hit s l.k w.if-flags-k.true)),
+          )
+      | else-flags-k w ↦ (
+            omega arith,
+            omega (arith, ap length (members_miss s l.k w.if-flags-k.false)),
+            w.room-is ∙ l.invariant.2 ∙ sym (ap after (members_miss s l.k w.if-flags-k.false)),
+          )
+    ]
 
 pub shape_of-room : goal.shape_of-room
 shape_of-room c = let a = c.args in
