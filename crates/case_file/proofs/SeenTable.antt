@@ -13,7 +13,7 @@ use lib.Dec.{eqb}
 use borrow.Author.Tests.{lt-ltb, eqb-true, ne_eqb, not-false}
 use Rattle.definition.specs.01-Words.{absent}
 use Rattle.definition.specs.02-Ranges.{any}
-use Rattle.definition.proofs.Tests.{or_false, or-true as either}
+use Rattle.definition.proofs.Tests.{or_false, or_true as either}
 use Rattle.definition.specs.13-Formulas.{Formula, is_action}
 use Rattle.definition.specs.14-Book.{tree_in, book}
 use Rattle.formula_book.proofs.Laws.{admitted_few, beyond}

@@ -1,5 +1,6 @@
 // Case files: what their numbers name, the log, the records, and checks 1 to 9 in order.
 #![tactic(auto)]
+
 mod admission;
 mod formula_numbers;
 mod log_checks;
