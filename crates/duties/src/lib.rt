@@ -1,5 +1,6 @@
 // The duties of a case: checks 31 and 32.
 #![tactic(auto)]
+
 mod kept;
 mod named;
 

@@ -1,5 +1,6 @@
 // The sixteen rules: checks 27, 24, 25, 26 and 18, and what an action owes.
 #![tactic(auto)]
+
 mod comparisons;
 mod fit;
 mod policies;

@@ -1,5 +1,6 @@
 // What a step is made of: its shape, its premises and what it cites, checks 12 to 16.
 #![tactic(auto)]
+
 mod citations;
 mod premises;
 mod rule_lines;

@@ -1,0 +1,19 @@
+-- `and_right` meets its contract: by the kind of the premise. Assumes nothing.
+use Rattle.rules.proofs.ComparedRows.{readable}
+use Rattle.rules.proofs.FormulaParts.{and_parts, not_right, right}
+use Rattle.rules.proofs.sixteen.and_right.Goals as goal
+
+pub row_at-premise-requires : goal.row_at-premise-requires
+row_at-premise-requires c = readable c.requires.1
+
+pub returns-then-premise-ne3 : goal.returns-then-premise-ne3
+returns-then-premise-ne3 c = let row = c.row_at-premise in
+    not_right row.result c.requires.1 row.ensures _ c.if-premise-ne3.true
+
+pub is_and-requires : goal.is_and-requires
+is_and-requires c = let row = c.row_at-premise in
+    (c.requires.1, (and_parts row.result c.requires.1 row.ensures c.if-premise-ne3.false).first, c.requires.0)
+
+pub returns : goal.returns
+returns c = let row = c.row_at-premise in
+    right row.result c.requires.1 row.ensures _ c.if-premise-ne3.false c.is_and.ensures

@@ -1,0 +1,45 @@
+-- `take_premises` meets its contract: the premises from `j` on decide as all of them do. Assumes nothing.
+use Prim.Native.Nat.{◌-◌}
+use mathlib.Core.Path.{sym, ◌∙◌}
+use mathlib.Core.Bool.{or-true}
+use native.Mathlib.Omega.{arith}
+use borrow.Author.Tests.{le-ltb}
+use Rattle.case_file.proofs.LentCaseLaws.{premises_few}
+use Rattle.step_shape.proofs.PremiseTurns.{turn_start, turn_refused, turn_next, turn_end}
+use Rattle.step_shape.proofs.premises.take_premises.Goals as goal
+
+pub overflow_add-end : goal.overflow_add-end
+overflow_add-end c = omega (arith, c.requires.parted.1, premises_few _ c.requires.parted.0)
+
+pub loop-j-init : goal.loop-j-init
+loop-j-init c = turn_start _ _ _ _ _ c.requires.k_bound.1
+
+pub premise_step-p-requires : goal.premise_step-p-requires
+premise_step-p-requires c = (c.requires.parted.0, omega (arith, c.loop-j-test.true, c.requires.parted.1))
+
+pub returns-then-k-p : goal.returns-then-k-p
+returns-then-k-p c = let l = c.loop-j in
+    turn_refused _ _ _ _ _ l.left l.j l.invariant _ c.premise_step-p.ensures c.loop-j-test.true (rw (le-ltb _ _ c.if-k-p.true))
+
+pub is_used-requires : goal.is_used-requires
+is_used-requires c = omega (arith, c.if-k-p.false, c.requires.k_bound.0)
+
+pub returns-then-is_used : goal.returns-then-is_used
+returns-then-is_used c = let l = c.loop-j in
+    turn_refused _ _ _ _ _ l.left l.j l.invariant _ c.premise_step-p.ensures c.loop-j-test.true (rw (sym c.is_used.ensures ∙ c.if-is_used.true, or-true))
+
+pub mark_used-requires : goal.mark_used-requires
+mark_used-requires c = (omega (arith, c.if-k-p.false, c.requires.k_bound.0), c.loop-j.invariant.long)
+
+pub overflow_add-j : goal.overflow_add-j
+overflow_add-j c = omega (arith, c.loop-j-test.true, c.requires.parted.1, premises_few _ c.requires.parted.0)
+
+pub loop-j-smaller : goal.loop-j-smaller
+loop-j-smaller c = omega (arith, c.loop-j-test.true)
+
+pub loop-j-preserved : goal.loop-j-preserved
+loop-j-preserved c = let l = c.loop-j in
+    turn_next _ _ _ _ _ l.left l.j l.invariant _ c.premise_step-p.ensures c.loop-j-test.true _ (omega (arith, c.if-k-p.false)) (sym c.is_used.ensures ∙ c.if-is_used.false) c.mark_used.ensures
+
+pub returns : goal.returns
+returns c = let l = c.loop-j in turn_end _ _ _ _ _ l.left l.j l.invariant (omega (arith, c.loop-j-test.false))
