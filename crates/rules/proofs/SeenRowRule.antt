@@ -54,9 +54,9 @@ module _ {s b v : List ℕ} (case : CaseLent s b v) (k : ℕ) (inside : k < rows
 
   -- A row that shows nothing has no conclusion: the variants Hidden and Struck.
   pub unseen :
-      (w : View) → ((l : List Formula) → view_meant l w ≡ code_view l (get_or v k 0)) → (tag_of the_type w ≡ 0) ⊎ (tag_of the_type w ≡ 1) → (f : Formula) →
+      (w : View) → ((l : List Formula) → view_meant l w ≡ code_view l (get_or v k 0)) → ((n : ℕ) → w ≡ Shows n → ⊥) → (f : Formula) →
       seen_row (case_of s) f k [] ≡ false
   unfolding view_meant row_conclusion is_that
   unseen Hidden is t f = seen_as Hidden is f
   unseen Struck is t f = seen_as Struck is f
-  unseen (Shows n) is t f = absurd (⊎_elim (λ e. omega (arith, e)) (λ e. omega (arith, e)) t)
+  unseen (Shows n) is t f = absurd (t n refl)

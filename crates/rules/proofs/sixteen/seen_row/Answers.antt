@@ -33,7 +33,7 @@ view_at-view-requires c = (row_few c.requires.case_lent.0 c.args.row c.requires.
 
 pub returns-in_default : goal.returns-in_default
 unfolding failure_meant
-returns-in_default c = let misfit = unseen c.requires.case_lent.0 c.args.row c.requires.row_bound c.view_at-view.result c.view_at-view.ensures c.in_default.in_default-own.keys2 _ in
+returns-in_default c = let misfit = unseen c.requires.case_lent.0 c.args.row c.requires.row_bound c.view_at-view.result c.view_at-view.ensures c.in_default.not-Shows _ in
     sym (stops _ _ 18 _ (refl, refl, ap not misfit))
 
 pub agent_of-agent-requires : goal.agent_of-agent-requires
