@@ -1,5 +1,6 @@
 // One step of a justification: its checks in order, what it uses, and what it leaves behind.
 #![tactic(auto)]
+
 mod fresh;
 mod refining;
 mod step;
