@@ -1,5 +1,6 @@
 // The checker: the steps in order, the end of a justification, and the verdict on a file and a room.
 #![tactic(auto)]
+
 mod checks;
 mod ending;
 mod run;
