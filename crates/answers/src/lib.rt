@@ -1,5 +1,6 @@
 // Answers in numbers, as C gets them.
 #![tactic(auto)]
+
 ghost use Rattle.std.specs.Prelude.{◌≡◌};
 ghost use Rattle.definition.specs.32-Numbers.{verdict_numbers, run_numbers, count_numbers};
 ghost use Rattle.words.specs.Meanings.{failure_meant, counted_meant};
