@@ -1,5 +1,6 @@
 // The index of a log by observer: building it, and the check of a case through it.
 #![tactic(auto)]
+
 mod building;
 mod heads;
 mod log_rows;
