@@ -1,7 +1,7 @@
 -- Demand 3 on examples: files that differ in a row that the agent does not see have the same outcome, whether a step cites that row or not;
 -- what the demand leaves aside, files that check 1, 2 or 5 refuses, has to be left aside; and alike files have to share the audit hour.
 -- What has to be left aside, and that the hour has to be shared, is stated here and proved in proofs/NotAside.
-use Rattle.std.specs.Prelude.{ℕ, zero, suc, ◌<◌, List, [], ◌∷◌, map, ◌⊎◌, ◌≡◌, refl, length, take, drop}
+use Rattle.std.specs.Prelude.{ℕ, zero, suc, ◌<◌, List, [], ◌∷◌, map, ◌≡◌, refl, length, take, drop}
 use Rattle.std.proofs.Common.{inl, inr, sym, ◌∙◌, arith}
 use Rattle.definition.specs.01-Words.{words, absent}
 use Rattle.definition.specs.13-Formulas.{once}
@@ -9,7 +9,7 @@ use Rattle.definition.specs.15-Records.{log_of}
 use Rattle.definition.specs.19-Rewriting.{laid_out, with_number, strike}
 use Rattle.definition.specs.31-Outcome.{passed, refused, outcome}
 use Rattle.definition.specs.43-Alike.{RowAlike, Alike}
-use Rattle.definition.specs.44-Demands.{LeftAside, Mended, checking}
+use Rattle.definition.specs.44-Demands.{Mended, checking}
 use Rattle.definition.specs.51-Files.{audit_hour, file_of, formula_row, predicate_row, owns_row, says_row, communicates_row, creates_row}
 use Rattle.definition.specs.53-Desk.{DeskCase, computed, expected, lent, unchanged, writes, seen_by, owner_step, due_before, twice_due, built}
 
