@@ -1,4 +1,4 @@
--- The theorems of demands 1 and 2 and of the requests on desk cases and examples of the tables of refusals, computed: their hypotheses can be met. Those of demand 3 are met in specs/55-HiddenRows, and the last one here.
+-- The theorems of demands 1 and 2 and of the requests on desk cases and examples of the tables of refusals, computed: their hypotheses can be met. Those of demand 3 are met in definition's specs/55-HiddenRows and proofs/NotAside, and the last one here.
 -- Assumes nothing.
 use Prim.Native.Nat.{ℕ, zero, suc, ◌≤◌, ◌<◌}
 use mathlib.Core.Bool.{true}
@@ -45,7 +45,8 @@ use Rattle.definition.specs.47-Indexed.{IsIndex, AsBuilt, FileIndexRoom}
 use Rattle.definition.specs.51-Files.{not_due, creates_row}
 use Rattle.definition.specs.52-Evaluation.{evaluated}
 use Rattle.definition.specs.53-Desk.{lent, grant_with, grant, visit, twice, built}
-use Rattle.definition.specs.55-HiddenRows.{two_rows, one_way, other_way, ways_alike, ways_made}
+use Rattle.definition.specs.55-HiddenRows.{two_rows, one_way, other_way, ways_alike}
+use Rattle.definition.proofs.NotAside.{ways_made}
 use Rattle.definition.specs.56-SeenRows.{four_rows, rows_admitted}
 use Rattle.definition.specs.58-Table.{grant_byte, grant_and, later_premise, supposed_owed, built_table}
 use Rattle.definition.specs.59-Sizes.{lent_column, doubled, with_large, with_repeat, built_sizes}

@@ -1,4 +1,4 @@
--- The theorems of request 6 on the desk's duties, computed: their hypotheses can be met, and neither side is empty. That alike files have to share the audit hour is in specs/55-HiddenRows. Assumes nothing.
+-- The theorems of request 6 on the desk's duties, computed: their hypotheses can be met, and neither side is empty. That alike files have to share the audit hour is in definition's proofs/NotAside. Assumes nothing.
 use Prim.Native.Nat.{ℕ, zero, suc, ◌≤◌, ◌<◌}
 use mathlib.Core.Bool.{true}
 use mathlib.Core.Logic.{◌⊎◌, inr, ⊎_elim}

@@ -16,7 +16,8 @@ use Rattle.definition.specs.31-Outcome.{passed, refused, outcome}
 use Rattle.definition.specs.33-Text.{lent_room}
 use Rattle.definition.specs.36-Night.{in_turn}
 use Rattle.definition.specs.53-Desk.{lent, grant, visit}
-use Rattle.definition.specs.55-HiddenRows.{two_rows, one_way, other_way, ways_alike, never_both, made_if_refused, made_if_passed}
+use Rattle.definition.specs.55-HiddenRows.{two_rows, one_way, other_way, ways_alike, never_both, made_if_passed}
+use Rattle.definition.proofs.NotAside.{made_if_refused}
 use Rattle.definition.specs.63-Nights.{longs, lent_verdicts, unseen, two_duties, gap, built_nights}
 use Rattle.definition.specs.71-Nights.{NightLent, lent_for, night_of, BadPair, files_in, HasFile, file, began, alone, shown_of, FilesTold, AllWrote, strike_file, checking_at}
 

@@ -58,3 +58,4 @@ pub mod NightFiles
 pub mod NightPairs
 pub mod NightPromises
 pub mod DemandsProved
+pub mod NotAside

@@ -1,6 +1,7 @@
 -- Demand 3 on examples: files that differ in a row that the agent does not see have the same outcome, whether a step cites that row or not;
 -- what the demand leaves aside, files that check 1, 2 or 5 refuses, has to be left aside; and alike files have to share the audit hour.
-use Rattle.std.specs.Prelude.{ℕ, zero, suc, ◌<◌, List, [], ◌∷◌, map, ◌⊎◌, ◌≡◌, refl, length, take, drop}
+-- What has to be left aside, and that the hour has to be shared, is stated here and proved in proofs/NotAside.
+use Rattle.std.specs.Prelude.{ℕ, zero, suc, ◌<◌, List, [], ◌∷◌, map, ◌≡◌, refl, length, take, drop}
 use Rattle.std.proofs.Common.{inl, inr, sym, ◌∙◌, arith}
 use Rattle.definition.specs.01-Words.{words, absent}
 use Rattle.definition.specs.13-Formulas.{once}
@@ -8,7 +9,7 @@ use Rattle.definition.specs.15-Records.{log_of}
 use Rattle.definition.specs.19-Rewriting.{laid_out, with_number, strike}
 use Rattle.definition.specs.31-Outcome.{passed, refused, outcome}
 use Rattle.definition.specs.43-Alike.{RowAlike, Alike}
-use Rattle.definition.specs.44-Demands.{LeftAside, Mended, checking}
+use Rattle.definition.specs.44-Demands.{Mended, checking}
 use Rattle.definition.specs.51-Files.{audit_hour, file_of, formula_row, predicate_row, owns_row, says_row, communicates_row, creates_row}
 use Rattle.definition.specs.53-Desk.{DeskCase, computed, expected, lent, unchanged, writes, seen_by, owner_step, due_before, twice_due, built}
 
@@ -90,31 +91,12 @@ pub hidden_rows_hidden : map computed hidden_cases ≡ map expected hidden_cases
 unfolding built two_rows hidden_cases
 hidden_rows_hidden = refl
 
--- The demand asks of no file here more than it has: no refusal by 1, 2 or 5.
-pub not_aside : (n : ℕ) → 2 < n → (n < 5) ⊎ (5 < n) → LeftAside n → ⊥
-not_aside n from other (inl i) = omega arith
-not_aside n from other (inr (inl i)) = omega arith
-not_aside n from (inl lt) (inr (inr i)) = omega arith
-not_aside n from (inr lt) (inr (inr i)) = omega arith
-
-pub made_if_refused : (s room : List ℕ) (m q : ℕ) → 2 < m → (m < 5) ⊎ (5 < m) → (outcome s room).verdict ≡ refused m q → WellMade s room
-made_if_refused s room m q from other v (n, p, e, aside) = let number : n ≡ m = cc in not_aside m from other (rw number at aside)
-
 -- A verdict is not both.
 pub never_both : {d r n p : ℕ} → passed d r ≡ refused n p → ⊥
 never_both e = let z : ◌≡◌ {A = ℕ} 0 1 = cc in omega arith
 
 pub made_if_passed : (s room : List ℕ) (d r : ℕ) → (outcome s room).verdict ≡ passed d r → WellMade s room
 made_if_passed s room d r v (n, p, e, among) = never_both (sym v ∙ e)
-
-pub ways_made : WellMade (one_way 0 1) lent × WellMade (other_way 4 1) lent × WellMade (one_way 0 0) lent × WellMade (other_way 4 0) lent
-unfolding built two_rows
-ways_made = (
-  made_if_refused (one_way 0 1) lent 16 0 (omega arith) (inr (omega arith)) refl,
-  made_if_refused (other_way 4 1) lent 16 0 (omega arith) (inr (omega arith)) refl,
-  made_if_passed (one_way 0 0) lent 0 1 refl,
-  made_if_passed (other_way 4 0) lent 0 1 refl,
-)
 
 -- Two alike files whose book check 3 or 4 refuses, though check 5 would find fault with the unseen row of one: the demand speaks of these too.
 pub record AlikeRefused (s t : List ℕ) (number place : ℕ) : Type 0 where
@@ -123,27 +105,6 @@ pub record AlikeRefused (s t : List ℕ) (number place : ℕ) : Type 0 where
   pub alike : Alike s t
   pub one_made : WellMade s lent
   pub other_made : WellMade t lent
-
-faulty_book :
-    (code creator n : ℕ) → 2 < n → n < 5 → (outcome (one_way_in code creator 1 0) lent).verdict ≡ refused n 5 → (outcome (other_way_in code creator 4 0) lent).verdict ≡ refused n 5 →
-    AlikeRefused (one_way_in code creator 1 0) (other_way_in code creator 4 0) n 5
-faulty_book code creator n from to e f =
-    record {
-      one = e;
-      other = f;
-      alike = ways_alike code creator 1 4 0;
-      one_made = made_if_refused (one_way_in code creator 1 0) lent n 5 from (inl to) e;
-      other_made = made_if_refused (other_way_in code creator 4 0) lent n 5 from (inl to) f;
-    }
-
--- Formula 5 has a code, and it repeats formula 0.
-pub alike_refused_by_3 : AlikeRefused (one_way_in 1 0 1 0) (other_way_in 1 0 4 0) 3 5
-unfolding built two_rows
-alike_refused_by_3 = faulty_book 1 0 3 (omega arith) (omega arith) refl refl
-
-pub alike_refused_by_4 : AlikeRefused (one_way_in 0 0 1 0) (other_way_in 0 0 4 0) 4 5
-unfolding built two_rows
-alike_refused_by_4 = faulty_book 0 0 4 (omega arith) (omega arith) refl refl
 
 -- What the demand leaves aside has to be left aside: alike files, one refused by the number, the other well made, with another verdict.
 pub record ShowsThrough (number : ℕ) : Type 0 where
@@ -159,30 +120,6 @@ pub record ShowsThrough (number : ℕ) : Type 0 where
 unfoldable pub empty_parts : List ℕ
 empty_parts = laid_out 0 0 audit_hour ([] ∷ [] ∷ [] ∷ [] ∷ [] ∷ [] ∷ [] ∷ [] ∷ [])
 
-pub one_shows_through : ShowsThrough 1
-unfolding built empty_parts
-one_shows_through =
-    record {
-      one = take 37 empty_parts;
-      other = empty_parts;
-      place = 0;
-      alike = record {
-        agent = refl;
-        action = refl;
-        hour = refl;
-        formulas = refl;
-        conditions = refl;
-        obligations = refl;
-        labels = refl;
-        steps = refl;
-        premises = refl;
-        log = record { rows = refl; row = λ k lt. absurd (omega arith) };
-      };
-      refused_by = refl;
-      other_made = made_if_refused empty_parts lent 9 0 (omega arith) (inr (omega arith)) refl;
-      differ = λ e. let z : ◌≡◌ {A = ℕ} 1 9 = cc in omega arith;
-    }
-
 -- No formulas, and one row that nobody is named for, or a byte that is half an observer.
 unfoldable pub observer_bytes : List ℕ → List ℕ
 observer_bytes bytes = laid_out 0 0 audit_hour ([] ∷ words (absent ∷ 0 ∷ 0 ∷ []) ∷ bytes ∷ [] ∷ [] ∷ [] ∷ [] ∷ [] ∷ [])
@@ -191,44 +128,6 @@ pub unnamed_alike : (k : ℕ) → k < 1 → RowAlike 0 (log_of (observer_bytes (
 unfolding built observer_bytes
 unnamed_alike zero h = inr (refl, refl)
 unnamed_alike (suc k) h = absurd (omega arith)
-
-pub two_shows_through : ShowsThrough 2
-unfolding built observer_bytes
-two_shows_through =
-    record {
-      one = observer_bytes (7 ∷ []);
-      other = observer_bytes [];
-      place = 2;
-      alike = record {
-        agent = refl;
-        action = refl;
-        hour = refl;
-        formulas = refl;
-        conditions = refl;
-        obligations = refl;
-        labels = refl;
-        steps = refl;
-        premises = refl;
-        log = record { rows = refl; row = unnamed_alike };
-      };
-      refused_by = refl;
-      other_made = made_if_refused (observer_bytes []) lent 9 0 (omega arith) (inr (omega arith)) refl;
-      differ = λ e. let z : ◌≡◌ {A = ℕ} 2 9 = cc in omega arith;
-    }
-
--- An unseen row whose action is no action is a fault of the file.
-pub five_shows_through : ShowsThrough 5
-unfolding built two_rows
-five_shows_through =
-    record {
-      one = one_way 1 0;
-      other = other_way 4 0;
-      place = 1;
-      alike = ways_alike 0 1 1 4 0;
-      refused_by = refl;
-      other_made = ways_made.3;
-      differ = λ e. let z : ◌≡◌ {A = ℕ} 0 1 = cc in omega arith;
-    }
 
 -- And the one file that is not answered as if it were struck: that row is mended by striking it out, and the struck file passes.
 pub struck_is_mended : Mended (one_way 1 0) 1 × ((outcome (one_way 1 0) lent).verdict ≡ refused 5 1) × ((outcome (strike (one_way 1 0)) lent).verdict ≡ passed 0 1)
@@ -278,16 +177,3 @@ pub record HourShows : Type 0 where
 -- Twice with a duty due at 49 that names no row: expired at the audit hour 50, not expired at 49.
 unfoldable pub audited_at : (hour : ℕ) → List ℕ
 audited_at hour = with_number (twice_due 0 1 once (due_before once absent ∷ []) 0) 18 hour
-
-pub hour_shows : HourShows
-unfolding built audited_at
-hour_shows =
-    record {
-      one = audited_at 49;
-      other = audited_at 50;
-      before = refl;
-      behind = refl;
-      one_made = made_if_passed (audited_at 49) lent 1 1 refl;
-      other_made = made_if_refused (audited_at 50) lent 31 0 (omega arith) (inr (omega arith)) refl;
-      differ = never_both {d = 1} {r = 1} {n = 31} {p = 0};
-    }

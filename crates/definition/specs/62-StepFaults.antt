@@ -5,9 +5,8 @@ use Rattle.definition.specs.02-Ranges.{listed}
 use Rattle.definition.specs.03-Lists.{join_all}
 use Rattle.definition.specs.13-Formulas.{each_use}
 use Rattle.definition.specs.31-Outcome.{passed, refused}
-use Rattle.definition.specs.46-Requests.{outcome_without, is_misfit_number, is_stray_number, is_refining_number, evaluated_requests}
 use Rattle.definition.specs.51-Files.{audit_hour, not_due, file_of, formula_row, predicate_row, owns_row, says_row, and_row, implies_row, communicates_row, creates_row, user_action_row, step}
-use Rattle.definition.specs.53-Desk.{DeskCase, lent, computed, expected, unchanged, writes}
+use Rattle.definition.specs.53-Desk.{DeskCase, computed, expected, unchanged, writes}
 use Rattle.definition.specs.58-Table.{supposing, built_table}
 
 -- Request 1 of document 02. These formulas are supposed, each by the label of its place, the first of them at step 0.
