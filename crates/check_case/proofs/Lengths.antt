@@ -31,9 +31,6 @@ verdict_most (refused n p) = omega (arith, pair_most refused_word n p)
 pub parts_apart : (d r : ℕ) (room : List ℕ) → length (take d room) + length (take r (drop d room)) ≤ length room
 parts_apart d r room = simp (length-take, length-drop) (omega arith)
 
-pub duties_fit : (room : List ℕ) (d : ℕ) {duties : List ℕ} → duties ≡ take d room → length duties ≤ length room
-duties_fit room d first = rw first (omega (arith, parts_apart d 0 room))
-
 pub rows_fit :
     (room : List ℕ) (d r : ℕ) {duties rest rows : List ℕ} → duties ≡ take d room → rest ≡ drop d room → rows ≡ take r rest →
     length duties + length rows ≤ length room

@@ -3,5 +3,4 @@ pub mod WrittenText
 pub mod Numerals
 pub mod Lines
 pub mod Readings
-pub mod Telling
 pub mod Lengths

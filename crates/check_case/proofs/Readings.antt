@@ -4,17 +4,16 @@ use mathlib.Core.Path.{◌≡◌, refl, sym, ap, subst, ◌∙◌}
 use mathlib.Core.Bool.{Bool, true, false}
 use mathlib.Core.List.{List, [], ◌∷◌, ◌++◌, map, append-nil, append_assoc}
 use native.Mathlib.Omega.{arith}
-use lib.ListN.{length, take, drop, length-append, length-take, drop_of_length-le}
+use lib.ListN.{length, take, length-append}
 use lib.Seq.{sets, sets-eq, length-sets, length-take-le, take_all, take_at}
 use lib.IntN.{ℤ, pos, negsuc}
 use lib.Signed.{lt_z}
 use lib.Dec.{T, ltb}
 use borrow.Author.Tests.{ltb-true, ltb-false}
-use Rattle.io.specs.Counts.{clamp_len}
 use Rattle.definition.specs.03-Lists.{join_all}
 use Rattle.definition.specs.34-Program.{Answer, gives, error, so_far, whole, read_on, read_all, NoneEmpty}
 use Rattle.definition.proofs.ReadingLaws.{one_more, filled_more, filled_whole, given_on, more_given}
-use Rattle.check_case.specs.Input.{reading_meant, answer_meant, answer_within, given, Taken, Ended, ReadFrom}
+use Rattle.check_case.specs.Input.{reading_meant, clamp_len, answer_meant, answer_within, given, Taken, Ended, ReadFrom}
 use Rattle.check_case.specs.Written.{Written}
 use Rattle.check_case.specs.declared.input.Reading.{Reading}
 use Rattle.check_case.specs.declared.input.Reading.TheVariants.{More, Whole, Failed}
@@ -48,19 +47,6 @@ unfolding read_on
 taken_end done z piece buffer e none h =
     subst (λ (a : Answer). Taken done a buffer buffer (Whole done)) (sym (answer_counts z piece e ∙ ap (λ (k : ℕ). gives (take k piece)) none))
     (record { reading = refl; held = h; buffer = refl })
-
--- The part of a piece that fits, behind which the rest of the piece is as it was.
-pub part_is :
-    (room most : ℕ) (piece part : List ℕ) → most ≡ min (length piece) room → length part ≡ length (take most piece) → take room (part ++ drop most piece) ≡ part
-part_is room most piece part m k = go (ltb (length piece) room) refl
-  where
-    go : (t : Bool) → ltb (length piece) room ≡ t → take room (part ++ drop most piece) ≡ part
-    go true e =
-        let less = ltb-true (length piece) room e in
-        ap (λ (l : List ℕ). take room (part ++ l)) (drop_of_length-le piece {i = most} (omega (arith, m, less)))
-        ∙ ap (take room) (append-nil part)
-        ∙ take_all room part (omega (arith, m, k, length-take most piece))
-    go false e = take_at part _ room (omega (arith, m, k, length-take most piece, ltb-false (length piece) room e))
 
 -- The bytes up to the end of what was written are those before and it.
 module _ (before after bytes : List ℕ) (done end : ℕ) (w : Written before done bytes after end) (fits : done + length bytes ≤ length before) where
@@ -111,10 +97,6 @@ module _
 
   pub taken_last : length after ≤ end → Taken done (answer_meant z piece) before after (Whole end)
   taken_last full = subst (λ (a : Answer). Taken done a before after (Whole end)) counted (taken_full before after (take more piece) done end w (omega (arith, exactly)) (omega (arith, exactly)) full)
-
--- What came of the answer, as the code's `match` names it.
-pub taken_as : {done : ℕ} {answer : Answer} {before after : List ℕ} {r named : Reading} → r ≡ named → Taken done answer before after r → Taken done answer before after named
-taken_as {done} {answer} {before} {after} e t = subst (λ (x : Reading). Taken done answer before after x) e t
 
 -- There is more to read, so the answer gave a byte, and the bytes counted are those before and its.
 more_counted :

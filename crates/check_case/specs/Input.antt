@@ -1,5 +1,5 @@
 -- What reading promises, in the words of the definition: what a buffer holds of the input, and what the system answered.
-use Rattle.std.specs.Prelude.{ℕ, ◌-◌, ◌≤◌, ◌<◌, ◌≡◌, List, [], ◌∷◌, ◌++◌, map, length, take, ℤ, pos, negsuc}
+use Rattle.std.specs.Prelude.{ℕ, ◌-◌, ◌≤◌, ◌<◌, ◌≡◌, List, [], ◌∷◌, ◌++◌, map, length, take, min, ℤ, pos, negsuc, Result, Ok, Err}
 use Rattle.std.proofs.lemmas.List.Edits.{sets}
 use Rattle.definition.specs.03-Lists.{join_all}
 use Rattle.definition.specs.34-Program.{Answer, gives, error, so_far, whole, failed, read_on, read_all, NoneEmpty}
@@ -18,6 +18,16 @@ abbrev pub Held : Reading → List ℕ → Type 0
 Held (More count) buffer = count < length buffer
 Held (Whole count) buffer = count ≤ length buffer
 Held Failed buffer = Unit {0}
+
+-- What a read answered, as a number: how many bytes, or -1 for an error.
+abbrev pub got_of : {E : Type 0} → Result ℕ E → ℤ
+got_of (Ok count) = pos count
+got_of (Err e) = negsuc 0
+
+-- How many bytes an answer counts of a piece that has so many.
+abbrev pub clamp_len : ℤ → (most : ℕ) → ℕ
+clamp_len (pos count) most = min count most
+clamp_len (negsuc count) most = 0
 
 -- What the answer of a read into this piece means: a negative one is an error, any other counts bytes of the piece.
 abbrev pub answer_meant : ℤ → List ℕ → Answer

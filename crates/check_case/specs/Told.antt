@@ -2,11 +2,10 @@
 use Rattle.std.specs.Prelude.{ℕ, ◌<◌, ◌≡◌, List, [], ◌++◌, length, ℤ}
 use Rattle.std.proofs.Math.Option.{Option, none, some}
 use Rattle.std.proofs.lemmas.List.Edits.{sets}
-use Rattle.io.specs.Counts.{IsPrefixLen}
 use Rattle.definition.specs.03-Lists.{join_all}
 use Rattle.definition.specs.34-Program.{so_far, read_all, most_read, printed, NoneEmpty}
 use Rattle.check_case.specs.Input.{given, last_answer, answers}
-use Rattle.check_case.specs.Written.{Written}
+use Rattle.check_case.specs.Written.{Written, IsPrefixLen}
 use Rattle.check_case.specs.declared.Told.{Told}
 use Rattle.check_case.specs.declared.Told.TheVariants.{Text, Nothing}
 

@@ -1,21 +1,21 @@
 // The program: a case on standard input, its verdict on standard output.
 #![tactic(auto)]
+
 mod input;
 mod report;
 mod text;
 
 ghost use Rattle.std.specs.Prelude.{◌≤◌, ◌<◌, ◌≡◌, length};
-ghost use Rattle.io.specs.Counts.{IsPrefixLen};
 ghost use Rattle.check_case.specs.Input.{reading_meant, Held};
 ghost use Rattle.check_case.specs.Told.{Tells, Judged};
-ghost use Rattle.check_case.specs.Written.{Written};
+ghost use Rattle.check_case.specs.Written.{Written, IsPrefixLen};
 ghost use Rattle.definition.specs.33-Text.{answer_text};
 ghost use Rattle.definition.specs.34-Program.{most_read, printed};
 
 use case_parts::LARGEST_FILE;
 use input::{Reading, read_case};
-use libc::{STDERR_FILENO, STDOUT_FILENO};
 use report::report;
+use std::io::Stdin;
 
 // The most bytes that are read: one more than the largest file has, so that a longer input is refused for its length.
 const MOST_READ: usize = LARGEST_FILE + 1;
@@ -53,31 +53,38 @@ fn tell(reading: Reading, case: &[u8], text: &mut [u8]) -> Told
     }
 }
 
-// Reads a case, and tells its answer. The last answer of the system is left in `got` and `piece`.
-fn judge_input(got: &mut isize, piece: &mut [u8], case: &mut [u8], text: &mut [u8]) -> Told
+// Reads a case from standard input, and tells its answer. The last answer of the system is left in `got` and `piece`.
+fn judge_input(
+    stdin: &mut Stdin,
+    got: &mut isize,
+    piece: &mut [u8],
+    case: &mut [u8],
+    text: &mut [u8],
+) -> Told
     requires piece_nonzero { 0 < length piece.old }
     requires case_len { length case.old ≡ most_read }
     requires in_bounds { 12000 ≤ length text.old }
     ensures { Judged got.new piece.new case.old case.new text.old text.new result }
 {
-    let reading = read_case(got, piece, case);
+    let reading = read_case(stdin, got, piece, case);
     tell(reading, case, text)
 }
 
-// Writes what there is to print, or that there is nothing.
-fn main() {
+// Writes what there is to print, or that there is nothing. Where a complaint cannot be written either, nothing is left to be done.
+fn main(rt: HostRuntime) {
+    let mut stdin = rt.stdin();
     let mut got = 0isize;
-    let mut piece = io::buffer();
+    let mut piece = [0u8; 4096];
     let mut case = [0u8; MOST_READ];
     let mut text = [0u8; 12000];
-    match judge_input(&mut got, &mut piece, &mut case, &mut text) {
+    match judge_input(&mut stdin, &mut got, &mut piece, &mut case, &mut text) {
         Told::Text(end) => {
-            if !io::write_all(STDOUT_FILENO, &text[..end]) {
-                io::write_all(STDERR_FILENO, b"check_case: cannot write standard output\n");
+            if rt.write_all(&text[..end]).is_err() {
+                let _ = eprintln!(rt; "check_case: cannot write standard output");
             }
         }
         Told::Nothing => {
-            io::write_all(STDERR_FILENO, b"check_case: cannot read standard input\n");
+            let _ = eprintln!(rt; "check_case: cannot read standard input");
         }
     }
 }

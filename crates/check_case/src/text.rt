@@ -1,5 +1,5 @@
 // Writing words and numbers into a buffer, one after the other. Each function answers where its text ends.
-ghost use Rattle.std.specs.Prelude.{◌+◌, ◌≤◌, length};
+ghost use Rattle.std.specs.Prelude.{◌+◌, ◌≤◌, ◌<◌, [], ◌∷◌, length};
 ghost use Rattle.check_case.specs.Written.{Written};
 ghost use Rattle.definition.specs.33-Text.{numeral, line, pair};
 
@@ -14,14 +14,26 @@ pub fn put_word(word: &[u8], at: usize, out: &mut [u8]) -> usize
     at + word.len()
 }
 
+// A decimal digit.
+fn put_digit(digit: u16, at: usize, out: &mut [u8]) -> usize
+    requires is_digit { digit < 10 }
+    requires in_bounds { at < length out.old }
+    ensures { Written out.old at ((48 + digit) ∷ []) out.new result }
+{
+    out[at] = b'0' + digit as u8;
+    at + 1
+}
+
 // A number in decimal: at most five digits.
 pub fn put_number(n: u16, at: usize, out: &mut [u8]) -> usize
     requires { at + 5 ≤ length out.old }
     ensures { Written out.old at (numeral n) out.new result }
 {
-    let mut digits = [0u8; 20];
-    let count = io::decimal(n as u64, &mut digits);
-    put_word(&digits[..count], at, out)
+    if n < 10 {
+        return put_digit(n, at, out);
+    }
+    let end = put_number(n / 10, at, out);
+    put_digit(n % 10, end, out)
 }
 
 // A word, a number and a line end.

@@ -1,0 +1,27 @@
+-- A line for one entry more, for which there is room: each line before it has eleven bytes at most.
+use Rattle.std.proofs.Common.{arith, subst, ◌+◌, ◌*◌, ◌≤◌, List, ℕ, length, take}
+use lib.Seq.{length-take-le}
+use Rattle.check_case.specs.Written.{Written}
+use Rattle.definition.specs.33-Text.{lines}
+use Rattle.check_case.proofs.WrittenText.{nothing, and_then, room_left}
+use Rattle.check_case.proofs.Lines.{lines_more}
+use Rattle.check_case.proofs.Lengths.{lines_most}
+use Rattle.check_case.proofs.report.put_lines.Goals as goal
+
+pub loop-i-init : goal.loop-i-init
+unfolding lines
+loop-i-init c = nothing _ _
+
+pub put_line-end-requires : goal.put_line-end-requires
+put_line-end-requires c =
+    let a = c.args in
+    let l = c.loop-i in
+    let most : length (lines a.word.now (take l.i a.entries.now)) ≤ 11 * l.i =
+    omega (arith, lines_most a.word.now (take l.i a.entries.now) (omega arith), length-take-le l.i a.entries.now (omega arith)) in
+    room_left l.invariant (11 * l.i) (length a.word.now + 6) most (omega arith)
+
+pub loop-i-preserved : goal.loop-i-preserved
+loop-i-preserved c =
+    let a = c.args in
+    let w = c.put_line-end in
+    subst (λ (t : List ℕ). Written a.out.now a.at t w.new.out w.result) (lines_more a.word.now a.entries.now c.loop-i.i (omega arith)) (and_then c.loop-i.invariant w.ensures)

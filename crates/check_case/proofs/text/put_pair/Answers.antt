@@ -1,0 +1,15 @@
+-- The word, the number and the line of the other number are one text, and a number has five digits at most.
+use Rattle.std.proofs.Common.{arith, ◌+◌, length, length-append}
+use Rattle.definition.specs.33-Text.{pair}
+use Rattle.check_case.proofs.WrittenText.{and_then, room_left}
+use Rattle.check_case.proofs.Numerals.{numeral_most}
+use Rattle.check_case.proofs.text.put_pair.Goals as goal
+
+pub put_line-requires : goal.put_line-requires
+put_line-requires c =
+    let a = c.args in
+    room_left (and_then c.put_word-number.ensures c.put_number-end.ensures) (length a.word.now + 5) 7 (simp length-append (omega (arith, numeral_most a.first))) (omega arith)
+
+pub returns : goal.returns
+unfolding pair
+returns c = and_then (and_then c.put_word-number.ensures c.put_number-end.ensures) c.put_line.ensures
