@@ -7,7 +7,7 @@ use mathlib.Core.List.{List}
 use lib.Dec.{eqb}
 use Rattle.definition.specs.01-Words.{absent}
 use Rattle.definition.specs.13-Formulas.{Formula, kind_of, predicate, owns, says, and, for_all, implies, after, communicates, creates, user_action, no_formula}
-use Rattle.definition.specs.14-Book.{Row, row_at, tree_in, tree_of, book as trees}
+use Rattle.definition.specs.14-Book.{row_at, tree_in, tree_of, book as trees}
 use Rattle.formula_rows.specs.Meanings.{row_meant}
 use Rattle.formula_rows.specs.declared.rows.Row as rows
 use Rattle.formula_book.proofs.Laws.{communicates_kind, creates_kind, user_action_kind}

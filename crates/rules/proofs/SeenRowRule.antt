@@ -2,7 +2,6 @@
 use Prim.Native.Nat.{ℕ, ◌<◌}
 use mathlib.Core.Path.{◌≡◌, refl, sym, ap, ◌∙◌}
 use mathlib.Core.Bool.{false}
-use mathlib.Core.Logic.{◌⊎◌, ⊎_elim}
 use mathlib.Core.List.{List, []}
 use native.Mathlib.Omega.{arith}
 use lib.ListN.{get_or}
@@ -15,8 +14,6 @@ use Rattle.case_file.specs.Meanings.{view_meant}
 use Rattle.definition.specs.17-Case.{case_of}
 use Rattle.case_file.specs.declared.log_checks.View.{View}
 use Rattle.case_file.specs.declared.log_checks.View.TheVariants.{Hidden, Struck, Shows}
-use denote.Enum.Declared.{tag_of}
-use Rattle.case_file.specs.contracts.log_checks.View.{the_type}
 use Rattle.case_file.proofs.Laws.{shown_named}
 use Rattle.definition.specs.21-Rules.{is_that, conclusion, row_conclusion, seen_row}
 use Rattle.case_file.specs.LentCase.{CaseLent, Numbered}

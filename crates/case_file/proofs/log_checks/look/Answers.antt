@@ -1,5 +1,4 @@
 -- `look` meets its contract. The loop's invariant: the entries before `j` are no fault, and `seen` says whether the agent is among them. Assumes nothing.
-use Prim.Native.Nat.{◌-◌}
 use mathlib.Core.Path.{◌≡◌, sym, ◌∙◌}
 use mathlib.Core.Bool.{◌||◌, or-true, or-false}
 use lib.Dec.{eqb}
@@ -48,8 +47,10 @@ loop-j-preserved c = let l = c.loop-j in
     let e = (sym c.is_object.ensures ∙ c.if-not-is_object.false) in
     let agent = c.args.agent in
     let now : c.if-entry-agent.seen ≡ l.seen || eqb c.observer-entry.result agent =
-    elim c.if-entry-agent.branch [ then-entry-agent w ↦ w.seen-is ∙ sym (rw (eq-eqb c.observer-entry.result agent w.if-entry-agent.true, or-true))
-      | else-entry-agent w ↦ w.seen-is ∙ sym (rw (ne_eqb c.observer-entry.result agent w.if-entry-agent.false, or-false)) ] in (
+    elim c.if-entry-agent.branch [
+      | then-entry-agent w ↦ w.seen-is ∙ sym (rw (eq-eqb c.observer-entry.result agent w.if-entry-agent.true, or-true))
+      | else-entry-agent w ↦ w.seen-is ∙ sym (rw (ne_eqb c.observer-entry.result agent w.if-entry-agent.false, or-false))
+    ] in (
       omega (arith, c.loop-j-test.true),
       rw is
           (looked_more _ agent _ _ l.least l.seen l.j l.invariant.1 c.loop-j-test.true c.if-entry-agent.seen

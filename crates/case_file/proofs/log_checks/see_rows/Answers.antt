@@ -1,5 +1,4 @@
 -- `see_rows` meets its contract. The loop's invariant: the rows below `k` are good, the table has their entries and is else as it was, and the next span is due at `due`. Assumes nothing.
-use Prim.Native.Nat.{◌-◌}
 use mathlib.Core.Path.{◌≡◌, sym, ap, ◌∙◌}
 use native.Mathlib.Omega.{arith}
 use Rattle.words.proofs.Searches.{passed_start, passed_more, passed_found, passed_all}
@@ -8,7 +7,6 @@ use Rattle.case_file.specs.Seen.{first_bad_row}
 use Rattle.case_file.specs.Meanings.{told_meant}
 use Rattle.definition.proofs.Spans.{due_first, due_next}
 use Rattle.case_file.proofs.SeenTable.{answer_bad, answer_good, seen_none, seen_more}
-use Rattle.case_file.proofs.log_checks.see_rows.Invariants.{Turn}
 use Rattle.case_file.proofs.log_checks.see_rows.Goals as goal
 
 pub loop-k-init : goal.loop-k-init
@@ -26,7 +24,7 @@ loop-k-init c = let is = c.records_in-n.ensures in
 pub tell_row-requires : goal.tell_row-requires
 unfolding rows_in
 tell_row-requires c = let v = c.loop-k.invariant in
-    record { admitted_book = (c.requires.0, omega (arith, v.rows, c.loop-k-test.true)); due_value = v.next; }
+    record { admitted_book = (c.requires.0, omega (arith, v.rows, c.loop-k-test.true)); due_value = v.next }
 
 pub returns-in-Faulty : goal.returns-in-Faulty
 unfolding told_meant first_bad_row

@@ -7,14 +7,14 @@ use Rattle.case_file.specs.Entries.{bad_entry}
 use Rattle.case_file.proofs.record_checks.bad_entry.Goals as goal
 
 pub bad_condition-requires : goal.bad_condition-requires
-bad_condition-requires c = record { booked = c.requires.booked; k_bound = rw c.if-p-eq-CONDITIONS.true at c.requires.condition_part_le_p.2; }
+bad_condition-requires c = record { booked = c.requires.booked; k_bound = rw c.if-p-eq-CONDITIONS.true at c.requires.condition_part_le_p.2 }
 
 pub returns-then-p-eq-CONDITIONS : goal.returns-then-p-eq-CONDITIONS
 unfolding bad_entry
 returns-then-p-eq-CONDITIONS c = rw (eq-eqb _ 3 c.if-p-eq-CONDITIONS.true) c.bad_condition.ensures
 
 pub bad_obligation-requires : goal.bad_obligation-requires
-bad_obligation-requires c = record { booked = c.requires.booked; k_bound = rw c.if-p-eq-OBLIGATIONS.true at c.requires.condition_part_le_p.2; }
+bad_obligation-requires c = record { booked = c.requires.booked; k_bound = rw c.if-p-eq-OBLIGATIONS.true at c.requires.condition_part_le_p.2 }
 
 pub returns-then-p-eq-OBLIGATIONS : goal.returns-then-p-eq-OBLIGATIONS
 unfolding bad_entry
@@ -22,7 +22,7 @@ returns-then-p-eq-OBLIGATIONS c = rw (ne_eqb _ 3 c.if-p-eq-CONDITIONS.false, eq-
 
 pub bad_label-requires : goal.bad_label-requires
 bad_label-requires c = let is : c.args.p ≡ label_part = omega (arith, c.requires.condition_part_le_p.0, c.requires.condition_part_le_p.1, c.if-p-eq-CONDITIONS.false, c.if-p-eq-OBLIGATIONS.false) in
-    record { booked = c.requires.booked; k_bound = rw is at c.requires.condition_part_le_p.2; }
+    record { booked = c.requires.booked; k_bound = rw is at c.requires.condition_part_le_p.2 }
 
 pub returns : goal.returns
 unfolding bad_entry

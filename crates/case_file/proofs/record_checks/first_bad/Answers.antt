@@ -1,8 +1,6 @@
 -- `first_bad` meets its contract: no entry passed is at fault. Assumes nothing.
-use Prim.Native.Nat.{◌-◌}
 use mathlib.Core.Path.{sym, ◌∙◌}
 use native.Mathlib.Omega.{arith}
-use Rattle.case_file.specs.Entries.{bad_entry}
 use Rattle.words.proofs.Searches.{passed_start, passed_more, passed_found, passed_all}
 use Rattle.case_file.proofs.record_checks.first_bad.Goals as goal
 
@@ -13,7 +11,7 @@ pub loop-k-init : goal.loop-k-init
 loop-k-init c = passed_start _ _
 
 pub bad_entry-requires : goal.bad_entry-requires
-bad_entry-requires c = record { booked = c.requires.booked; condition_part_le_p = (c.requires.condition_part_le_p.0, c.requires.condition_part_le_p.1, omega (arith, c.count_of-n.ensures.0, c.loop-k-test.true)); }
+bad_entry-requires c = record { booked = c.requires.booked; condition_part_le_p = (c.requires.condition_part_le_p.0, c.requires.condition_part_le_p.1, omega (arith, c.count_of-n.ensures.0, c.loop-k-test.true)) }
 
 pub returns-then-bad_entry : goal.returns-then-bad_entry
 returns-then-bad_entry c = let n = c.count_of-n.ensures.0 in

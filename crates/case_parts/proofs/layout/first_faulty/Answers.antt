@@ -1,8 +1,6 @@
 -- `first_faulty` meets its contract: the parts passed are not faulty. Assumes nothing.
-use Prim.Native.Nat.{◌-◌}
 use mathlib.Core.Path.{sym, ◌∙◌}
 use native.Mathlib.Omega.{arith}
-use Rattle.definition.specs.11-Layout.{faulty_part}
 use Rattle.words.proofs.Searches.{passed_start, passed_more, passed_found, passed_all}
 use Rattle.case_parts.proofs.layout.first_faulty.Goals as goal
 

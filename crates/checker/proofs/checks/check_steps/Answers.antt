@@ -30,7 +30,7 @@ state_is r =
 
 pub conclude-requires : goal.conclude-requires
 unfolding failure_meant
-conclude-requires c = record { case_lent = (c.requires.0, c.run_steps-ran.ensures.tables); step_part_nonzero = (c.requires.1, all_numbered c.requires.0.lent (run_is (goal.at.conclude-requires c).After-run_steps-ran c.in-None.is)); }
+conclude-requires c = record { case_lent = (c.requires.0, c.run_steps-ran.ensures.tables); step_part_nonzero = (c.requires.1, all_numbered c.requires.0.lent (run_is (goal.at.conclude-requires c).After-run_steps-ran c.in-None.is)) }
 
 pub returns-in-At : goal.returns-in-At
 unfolding failure_meant

@@ -1,5 +1,4 @@
 -- `first_open` meets its contract. Assumes nothing.
-use Prim.Native.Nat.{◌-◌}
 use mathlib.Core.Path.{sym, ◌∙◌}
 use native.Mathlib.Omega.{arith}
 use Rattle.words.proofs.Searches.{passed_start, passed_more, passed_found, passed_all}

@@ -56,7 +56,7 @@ write_lists-requires c = let duties = c.count_of-obligations.ensures.0 in
     let rows = rows_of (goal.at.write_lists-requires c).After-count_marked-r in
     let few = obligations_few _ c.requires.0 in
     let few_rows = rows_few _ c.requires.0 in
-    record { obligations_in_bounds = (omega (arith, duties, few, c.requires.2), omega (arith, duties, few), omega (arith, rows, few_rows, c.requires.1), omega (arith, rows, few_rows)); d_value = (c.count_marked-d.ensures.0, omega (arith, c.count_marked-r.ensures.0, c.if-room-d.false)); }
+    record { obligations_in_bounds = (omega (arith, duties, few, c.requires.2), omega (arith, duties, few), omega (arith, rows, few_rows, c.requires.1), omega (arith, rows, few_rows)); d_value = (c.count_marked-d.ensures.0, omega (arith, c.count_marked-r.ensures.0, c.if-room-d.false)) }
 
 pub overflow_cast-result-2 : goal.overflow_cast-result-2
 overflow_cast-result-2 c = omega (arith, few_duties (goal.at.overflow_cast-result-2 c).After-count_marked-r)

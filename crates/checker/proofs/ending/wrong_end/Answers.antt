@@ -26,7 +26,7 @@ pub step_at-step-requires : goal.step_at-step-requires
 step_at-step-requires c = (parted c.requires.lent, omega (arith, c.requires.last_value.0))
 
 pub is_that-requires : goal.is_that-requires
-is_that-requires c = record { numbered = rw c.step_at-step.ensures.formula (numbered c.requires.lent (c.requires.last_value.1 _ (omega (arith, c.requires.last_value.0)))); told = c.owed_by-owed.ensures.told; }
+is_that-requires c = record { numbered = rw c.step_at-step.ensures.formula (numbered c.requires.lent (c.requires.last_value.1 _ (omega (arith, c.requires.last_value.0)))); told = c.owed_by-owed.ensures.told }
 
 pub returns : goal.returns
 unfolding wrong_end last_step case_of

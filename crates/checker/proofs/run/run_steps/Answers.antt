@@ -1,5 +1,4 @@
 -- `run_steps` meets its contract: the whole run is the run from step `k` on. Assumes nothing.
-use Prim.Native.Nat.{◌-◌}
 use native.Mathlib.Omega.{arith}
 use Rattle.case_file.proofs.LentCaseLaws.{parted, steps_few}
 use Rattle.checker.proofs.StepRun.{turn_start, turn_end, turn_refused, turn_next}
@@ -16,7 +15,7 @@ loop-k-init c = turn_start _ _ _ _ _ c.count_of-n.ensures.0 c.requires.tables
 
 pub take_step-fault-requires : goal.take_step-fault-requires
 take_step-fault-requires c = let v = c.loop-k.invariant in
-    record { case_lent = (c.requires.case_lent, c.each_use_labels-each_use.ensures); k_bound = (omega (arith, v.all, c.loop-k-test.true), v.earlier); tables = v.tables; }
+    record { case_lent = (c.requires.case_lent, c.each_use_labels-each_use.ensures); k_bound = (omega (arith, v.all, c.loop-k-test.true), v.earlier); tables = v.tables }
 
 pub returns-in-At : goal.returns-in-At
 returns-in-At c = turn_refused _ _ _ _ _ _ _ c.loop-k.invariant c.loop-k-test.true _ _ _ _ c.take_step-fault.ensures _ _ c.in-At.is

@@ -1,8 +1,6 @@
 -- `first_undone` meets its contract: no obligation passed is at fault. Assumes nothing.
-use Prim.Native.Nat.{◌-◌}
 use mathlib.Core.Path.{sym, ◌∙◌}
 use native.Mathlib.Omega.{arith}
-use Rattle.definition.specs.23-Duties.{undone}
 use Rattle.words.proofs.Searches.{passed_start, passed_more, passed_found, passed_all}
 use Rattle.case_file.proofs.LentCaseLaws.{parted}
 use Rattle.duties.proofs.kept.first_undone.Goals as goal

@@ -13,7 +13,7 @@ use Rattle.duties.proofs.kept.undone.Goals as goal
 pub done_by-requires : goal.done_by-requires
 done_by-requires c = let duty = c.obligation_at-duty.ensures in
     let is = c.requires.0.lent.admitted in
-    record { case_lent = c.requires.0; row_value = (rw duty.row (row_named_good _ is _ c.requires.1), rw duty.action (obligation_named _ is _ c.requires.1)); }
+    record { case_lent = c.requires.0; row_value = (rw duty.row (row_named_good _ is _ c.requires.1), rw duty.action (obligation_named _ is _ c.requires.1)) }
 
 pub returns-then-duty-hour_of : goal.returns-then-duty-hour_of
 unfolding undone is_expired is_done case_of

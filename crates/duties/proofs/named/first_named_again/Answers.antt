@@ -1,9 +1,7 @@
 -- `first_named_again` meets its contract: no obligation passed is at fault, and the table has the rows that they name. Assumes nothing.
-use Prim.Native.Nat.{◌-◌}
 use mathlib.Core.Path.{sym, ◌∙◌}
 use native.Mathlib.Omega.{arith}
 use Rattle.definition.specs.17-Case.{case_of}
-use Rattle.definition.specs.23-Duties.{names_again}
 use Rattle.words.proofs.Searches.{passed_start, passed_more, passed_found, passed_all}
 use Rattle.case_file.proofs.LentCaseLaws.{parted}
 use Rattle.duties.proofs.NamedRows.{none_named}
@@ -16,7 +14,7 @@ pub loop-o-init : goal.loop-o-init
 loop-o-init c = (passed_start _ _, none_named (case_of c.args.file.now))
 
 pub names_again-requires : goal.names_again-requires
-names_again-requires c = record { lent = (c.requires, omega (arith, c.count_of-n.ensures.0, c.loop-o-test.true)); named_before = c.loop-o.invariant.1; }
+names_again-requires c = record { lent = (c.requires, omega (arith, c.count_of-n.ensures.0, c.loop-o-test.true)); named_before = c.loop-o.invariant.1 }
 
 pub returns-then-names_again : goal.returns-then-names_again
 returns-then-names_again c = passed_found _ _ c.loop-o.invariant.0 (omega (arith, c.count_of-n.ensures.0, c.loop-o-test.true)) (sym c.names_again.ensures.0 ∙ c.if-names_again.true)

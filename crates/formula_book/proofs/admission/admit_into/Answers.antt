@@ -25,7 +25,7 @@ returns-then-count-gt1024 c = let bad = too_long c.args.book.now c.if-book-ne0.f
 
 pub first_bad-bad-requires : goal.first_bad-bad-requires
 unfolding book_rows
-first_bad-bad-requires c = record { n_value = (refl, c.if-count-gt1024.false); sizes_len = c.requires; }
+first_bad-bad-requires c = record { n_value = (refl, c.if-count-gt1024.false); sizes_len = c.requires }
 
 pub shape_of-sizes-then-bad-count : goal.shape_of-sizes-then-bad-count
 shape_of-sizes-then-bad-count c = search rules

@@ -1,12 +1,10 @@
 -- `first_bad` meets its contract: the rows passed are good, and the column has their sizes; a size of 0 tells the first bad row. Assumes nothing.
-use Prim.Native.Nat.{ℕ, ◌-◌, ◌≤◌, ◌<◌}
+use Prim.Native.Nat.{ℕ, ◌<◌}
 use mathlib.Core.Path.{◌≡◌, sym, ◌∙◌}
 use mathlib.Core.List.{List}
 use native.Mathlib.Omega.{arith}
-use lib.ListN.{length}
 use Rattle.words.proofs.Searches.{Passed, passed_found, passed_all}
 use Rattle.definition.specs.14-Book.{book, book_rows, bad_formula}
-use Rattle.formula_book.specs.Sizes.{SizesTold}
 use Rattle.formula_book.proofs.SizeLaws.{good_row, zero_bad, told_none, told_more}
 use Rattle.formula_book.proofs.admission.first_bad.Invariants.{Turn}
 use Rattle.formula_book.proofs.admission.first_bad.Goals as goal
@@ -21,7 +19,7 @@ loop-k-init c = record { rows = c.requires.n_value.0; few = c.requires.n_value.1
 pub size_at-size-requires : goal.size_at-size-requires
 size_at-size-requires c = let v = c.loop-k.invariant in
     let lt = c.loop-k-test.true in
-    record { sizes_held = v.told.held; k_bound = (omega (arith, v.rows, lt), omega (arith, v.few, lt)); }
+    record { sizes_held = v.told.held; k_bound = (omega (arith, v.rows, lt), omega (arith, v.few, lt)) }
 
 pub shape_of-sizes-then-size-eq0 : goal.shape_of-sizes-then-size-eq0
 shape_of-sizes-then-size-eq0 c = c.loop-k.invariant.told.as_long

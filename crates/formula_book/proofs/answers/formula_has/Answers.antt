@@ -6,7 +6,7 @@ pub row_at-kind-requires : goal.row_at-kind-requires
 row_at-kind-requires c = good_inside c.requires.good_row
 
 pub policy_has-requires : goal.policy_has-requires
-policy_has-requires c = record { walk_row = policy_here _ _ c.requires.good_row c.row_at-kind.result c.row_at-kind.ensures c.if-kind-lt8.true; present = c.requires.present; }
+policy_has-requires c = record { walk_row = policy_here _ _ c.requires.good_row c.row_at-kind.result c.row_at-kind.ensures c.if-kind-lt8.true; present = c.requires.present }
 
 pub action_has-requires : goal.action_has-requires
-action_has-requires c = record { walk_row = action_here _ _ c.requires.good_row c.row_at-kind.result c.row_at-kind.ensures c.if-kind-lt8.false; present = c.requires.present; }
+action_has-requires c = record { walk_row = action_here _ _ c.requires.good_row c.row_at-kind.result c.row_at-kind.ensures c.if-kind-lt8.false; present = c.requires.present }

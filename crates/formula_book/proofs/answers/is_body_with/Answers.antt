@@ -12,7 +12,7 @@ returns-then-kind-ge8 c = let row = c.row_at-kind in
 
 pub policy_instance-requires : goal.policy_instance-requires
 policy_instance-requires c = let row = c.row_at-kind in
-    record { walk_row = walks _ _ c.requires.good_row.0 c.requires.good_row.1; walk_row_2 = policy_here _ _ c.requires.good_row_2 row.result row.ensures c.if-kind-ge8.false; }
+    record { walk_row = walks _ _ c.requires.good_row.0 c.requires.good_row.1; walk_row_2 = policy_here _ _ c.requires.good_row_2 row.result row.ensures c.if-kind-ge8.false }
 
 pub returns : goal.returns
 returns c = c.policy_instance.ensures

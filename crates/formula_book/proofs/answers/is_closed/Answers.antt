@@ -8,7 +8,7 @@ use Rattle.formula_book.proofs.answers.is_closed.Goals as goal
 
 pub formula_has-requires : goal.formula_has-requires
 unfolding closed sought_meant
-formula_has-requires c = record { good_row = c.requires; present = free_present; }
+formula_has-requires c = record { good_row = c.requires; present = free_present }
 
 pub returns : goal.returns
 unfolding closed sought_meant

@@ -9,7 +9,7 @@ use Rattle.formula_book.proofs.answers.is_ground.Goals as goal
 
 pub formula_has-requires : goal.formula_has-requires
 unfolding is_ground sought_meant
-formula_has-requires c = record { good_row = c.requires; present = parameter_present; }
+formula_has-requires c = record { good_row = c.requires; present = parameter_present }
 
 pub returns-then-is_closed : goal.returns-then-is_closed
 unfolding is_ground sought_meant

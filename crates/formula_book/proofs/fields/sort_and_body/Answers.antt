@@ -26,7 +26,7 @@ returns-then-row-ne-ABSENT-2 c = rw (ne_eqb _ _ c.if-row-ne-ABSENT-2.true, and-f
 
 pub policy_has-requires : goal.policy_has-requires
 unfolding sort_and_body binds_own_sort row_meant sought_meant
-policy_has-requires c = record { walk_row = walk_below c.args.book.now c.args.k c.requires c.args.row.x ((sym c.policy_below.ensures ∙ c.if-not-policy_below.false)); present = bound_present (sort_meant c.other_sort-sort.result); }
+policy_has-requires c = record { walk_row = walk_below c.args.book.now c.args.k c.requires c.args.row.x ((sym c.policy_below.ensures ∙ c.if-not-policy_below.false)); present = bound_present (sort_meant c.other_sort-sort.result) }
 
 pub returns : goal.returns
 unfolding sort_and_body binds_own_sort row_meant sought_meant

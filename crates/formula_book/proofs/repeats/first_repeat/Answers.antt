@@ -1,6 +1,5 @@
 -- `formula_book::repeats::first_repeat` meets its contract. The loop's invariant: the rows below `k` stand in the trees of their buckets, and none
 -- repeats a lower one. Assumes nothing.
-use Prim.Native.Nat.{◌-◌}
 use mathlib.Core.Path.{◌≡◌}
 use native.Mathlib.Omega.{arith}
 use Rattle.words.proofs.Searches.{passed_start, passed_more, passed_found, passed_all}

@@ -1,14 +1,12 @@
 -- The proof of the cycle of calls `action_instance` and `policy_instance`. Each one's measure is the row of the body; the common node of the two rows tells where both trees go on. The loop's invariant: the answer for the rows that it is at is that for the whole. Assumes nothing.
-use borrow.Author.Rules.{rules}
 use native.Mathlib.Omega.{arith}
-use Prim.Native.Nat.{ℕ, ◌<◌}
+use Prim.Native.Nat.{ℕ}
 use mathlib.Core.Path.{◌≡◌}
-use borrow.Author.Tests.{not-true, not-false}
 use Rattle.definition.specs.13-Formulas.{is_policy, is_action}
 use Rattle.definition.specs.14-Book.{book_rows}
 use Rattle.formula_rows.specs.Meanings.{sort_meant, node_meant}
 use Rattle.formula_rows.specs.declared.nodes.Node as nodes
-use Rattle.formula_walks.proofs.InstanceArms.{Ahead, ahead_all, Arm, in_arm, arm_of_action, calls_first, calls_last, differ_before, same_last, last_lower, ahead_last, leaf_same, body_lower, ahead_body, none_same}
+use Rattle.formula_walks.proofs.InstanceArms.{ahead_all, Arm, in_arm, arm_of_action, calls_first, calls_last, differ_before, same_last, last_lower, ahead_last, leaf_same, body_lower, ahead_body, none_same}
 use Rattle.formula_walks.proofs.WalkLaws.{said_parts, pair_parts, duty_parts}
 use Rattle.formula_walks.proofs.instances.+action_instance_policy_instance.Goals as goal
 use Rattle.formula_walks.proofs.instances.+action_instance_policy_instance.Goals.{action_instance-After-common_node, policy_instance-After-common_node}

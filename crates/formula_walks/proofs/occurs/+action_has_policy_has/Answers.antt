@@ -1,14 +1,13 @@
 -- The proof of the cycle of calls `action_has` and `policy_has`. Each one's measure is its row; a row's node tells where its tree goes on. The loop's invariant: what is found at the row it is at is what is found in the whole. Assumes nothing.
-use borrow.Author.Rules.{rules}
 use native.Mathlib.Omega.{arith}
-use Prim.Native.Nat.{ℕ, ◌<◌}
+use Prim.Native.Nat.{ℕ}
 use mathlib.Core.Path.{◌≡◌}
 use Rattle.definition.specs.13-Formulas.{is_policy}
 use Rattle.definition.specs.14-Book.{book_rows}
 use Rattle.formula_rows.specs.declared.nodes.Node.{Node}
 use Rattle.formula_rows.specs.Meanings.{sought_meant}
 use Rattle.formula_walks.proofs.WalkLaws.{leaf_read, said_read, known_node, said_parts, pair_parts, duty_parts, last_lower, body_lower, some_node}
-use Rattle.formula_walks.proofs.OccursLaws.{Ahead, ahead_all, Arm, own_arm, here, calls_first, calls_last, found_before, found_last, ahead_last, leaf_found, ahead_body}
+use Rattle.formula_walks.proofs.OccursLaws.{ahead_all, Arm, own_arm, here, calls_first, calls_last, found_before, found_last, ahead_last, leaf_found, ahead_body}
 use Rattle.formula_walks.proofs.occurs.+action_has_policy_has.Goals as goal
 use Rattle.formula_walks.proofs.occurs.+action_has_policy_has.Goals.{policy_has-After-node_of}
 

@@ -1,5 +1,5 @@
 -- `check_files` meets its contract: the first k files are told. Assumes nothing.
-use Prim.Native.Nat.{◌-◌, ◌<◌}
+use Prim.Native.Nat.{◌<◌}
 use native.Mathlib.Omega.{arith}
 use Rattle.definition.proofs.NightPairs.{files_few, ends_inside}
 use Rattle.definition.specs.36-Night.{whole_pairs}

@@ -1,8 +1,7 @@
 -- `check_pairs` meets its contract: no pair passed is at fault. Assumes nothing.
-use Prim.Native.Nat.{◌-◌}
 use mathlib.Core.Path.{refl, sym, ◌∙◌}
 use native.Mathlib.Omega.{arith}
-use Rattle.definition.specs.36-Night.{last_end, bad_pair}
+use Rattle.definition.specs.36-Night.{last_end}
 use Rattle.words.proofs.Searches.{passed_start, passed_more}
 use Rattle.words.specs.Meanings.{failure_meant}
 use Rattle.night.proofs.PairTurns.{not_at_fault, last_next, few_passed, found_bad, none_found}

@@ -45,12 +45,11 @@ pub loop-j-smaller : goal.loop-j-smaller
 loop-j-smaller c = omega (arith, c.loop-j-test.true)
 
 pub loop-j-preserved : goal.loop-j-preserved
-loop-j-preserved c = let l = c.loop-j in
-    (
-      omega (arith, l.invariant.0),
-      omega (arith, c.loop-j-test.true),
-      marked_more _ _ _ l.j _ l.views _ _ l.invariant.0 l.invariant.2 refl (omega (arith, (entry (goal.at.loop-j-preserved c).In-loop-j).1, c.requires.0.rows_few, c.requires.1, l.invariant.2.long)) c.log_row_at-row.ensures.action,
-    )
+loop-j-preserved c = let l = c.loop-j in (
+  omega (arith, l.invariant.0),
+  omega (arith, c.loop-j-test.true),
+  marked_more _ _ _ l.j _ l.views _ _ l.invariant.0 l.invariant.2 refl (omega (arith, (entry (goal.at.loop-j-preserved c).In-loop-j).1, c.requires.0.rows_few, c.requires.1, l.invariant.2.long)) c.log_row_at-row.ensures.action,
+)
 
 pub returns : goal.returns
 returns c = let l = c.loop-j in

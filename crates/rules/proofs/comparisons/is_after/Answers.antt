@@ -7,14 +7,14 @@ use Rattle.rules.proofs.ComparedRows.{each_use_tells, once_tells}
 use Rattle.rules.proofs.comparisons.is_after.Goals as goal
 
 pub is_row-requires : goal.is_row-requires
-is_row-requires c = record { numbered = c.requires.0; tells = each_use_tells c.requires.1 c.requires.2; }
+is_row-requires c = record { numbered = c.requires.0; tells = each_use_tells c.requires.1 c.requires.2 }
 
 pub returns-then-mark-eq1 : goal.returns-then-mark-eq1
 unfolding tree_of row_meant is_duty
 returns-then-mark-eq1 c = rw c.if-mark-eq1.true c.is_row.ensures
 
 pub is_row-requires-then-mark-eq2 : goal.is_row-requires-then-mark-eq2
-is_row-requires-then-mark-eq2 c = record { numbered = c.requires.0; tells = once_tells c.requires.1 c.requires.2; }
+is_row-requires-then-mark-eq2 c = record { numbered = c.requires.0; tells = once_tells c.requires.1 c.requires.2 }
 
 pub returns-then-mark-eq2 : goal.returns-then-mark-eq2
 unfolding tree_of row_meant is_duty

@@ -6,7 +6,7 @@ use Rattle.rules.proofs.comparisons.is_owns.Goals as goal
 
 pub is_row-requires : goal.is_row-requires
 is_row-requires c = let pre = c.requires in
-    record { numbered = pre; tells = owns_tells c.args.x c.args.y; }
+    record { numbered = pre; tells = owns_tells c.args.x c.args.y }
 
 pub returns : goal.returns
 unfolding tree_of row_meant

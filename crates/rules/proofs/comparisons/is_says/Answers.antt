@@ -5,7 +5,7 @@ use Rattle.rules.proofs.ComparedRows.{says_tells}
 use Rattle.rules.proofs.comparisons.is_says.Goals as goal
 
 pub is_row-requires : goal.is_row-requires
-is_row-requires c = record { numbered = c.requires.0; tells = says_tells c.requires.1 c.args.x c.args.z; }
+is_row-requires c = record { numbered = c.requires.0; tells = says_tells c.requires.1 c.args.x c.args.z }
 
 pub returns : goal.returns
 unfolding tree_of row_meant

@@ -23,29 +23,29 @@ pub overflow_cast-place : goal.overflow_cast-place
 overflow_cast-place c = omega (arith, place_few c.requires.case_lent.lent c.requires.shaped_step.0 c.requires.shaped_step.1)
 
 pub suppose-requires : goal.suppose-requires
-suppose-requires c = record { lent = (c.requires.case_lent.lent, own (goal.at.suppose-requires c).Start); label_bound = label_there _ _ (names_supposed c.in-0.is) (cited (goal.at.suppose-requires c).Start); }
+suppose-requires c = record { lent = (c.requires.case_lent.lent, own (goal.at.suppose-requires c).Start); label_bound = label_there _ _ (names_supposed c.in-0.is) (cited (goal.at.suppose-requires c).Start) }
 
 pub condition_row-requires : goal.condition_row-requires
-condition_row-requires c = record { lent = (c.requires.case_lent.lent, own (goal.at.condition_row-requires c).Start); condition_bound = condition_there _ _ (names_condition c.in-1.is) (cited (goal.at.condition_row-requires c).Start); }
+condition_row-requires c = record { lent = (c.requires.case_lent.lent, own (goal.at.condition_row-requires c).Start); condition_bound = condition_there _ _ (names_condition c.in-1.is) (cited (goal.at.condition_row-requires c).Start) }
 
 pub seen_row-requires : goal.seen_row-requires
-seen_row-requires c = record { case_lent = (c.requires.case_lent, own (goal.at.seen_row-requires c).Start); row_bound = row_there _ _ (names_row c.in-2.is) (cited (goal.at.seen_row-requires c).Start); }
+seen_row-requires c = record { case_lent = (c.requires.case_lent, own (goal.at.seen_row-requires c).Start); row_bound = row_there _ _ (names_row c.in-2.is) (cited (goal.at.seen_row-requires c).Start) }
 
 pub check_owner-requires : goal.check_owner-requires
-check_owner-requires c = record { lent = c.requires.case_lent.lent; shaped_step = c.requires.shaped_step; rule_value = c.in-5.is; }
+check_owner-requires c = record { lent = c.requires.case_lent.lent; shaped_step = c.requires.shaped_step; rule_value = c.in-5.is }
 
 pub from_premises-requires : goal.from_premises-requires
 from_premises-requires c = let lent = c.requires.case_lent.lent in
     let at = c.requires.shaped_step in
     let m = c.in_default.in_default-own.rest in
-    record { lent = lent; shaped_step = at; premised = premised c.args.step.rule (rule_number lent at.0 at.1) m.0.0.0.1 m.0.0.1 m.0.1 m.1; }
+    record { lent = lent; shaped_step = at; premised = premised c.args.step.rule (rule_number lent at.0 at.1) m.0.0.0.1 m.0.0.1 m.0.1 m.1 }
 
 pub returns-then-from_premises : goal.returns-then-from_premises
 unfolding failure_meant
 returns-then-from_premises c = fitting _ _ c.from_premises.ensures c.if-from_premises.true
 
 pub explained-requires : goal.explained-requires
-explained-requires c = record { lent = c.requires.case_lent.lent; shaped_step = c.requires.shaped_step; k_value = unfitting _ _ c.from_premises.ensures c.if-from_premises.false; }
+explained-requires c = record { lent = c.requires.case_lent.lent; shaped_step = c.requires.shaped_step; k_value = unfitting _ _ c.from_premises.ensures c.if-from_premises.false }
 
 pub returns-in-0 : goal.returns-in-0
 unfolding rule rules rule_at

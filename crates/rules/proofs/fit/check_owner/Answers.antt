@@ -20,7 +20,7 @@ said o e =
 
 pub owner-told-requires : goal.owner-told-requires
 owner-told-requires c = let at = c.requires.shaped_step in
-    record { lent = (c.requires.lent, premises_there c.requires.lent at.0 at.1); numbered = (own_numbered c.requires.lent at.0 at.1, own_policy c.requires.lent at.0 at.1); }
+    record { lent = (c.requires.lent, premises_there c.requires.lent at.0 at.1); numbered = (own_numbered c.requires.lent at.0 at.1, own_policy c.requires.lent at.0 at.1) }
 
 pub returns-then-fits : goal.returns-then-fits
 unfolding owner_meant failure_meant
@@ -28,7 +28,7 @@ returns-then-fits c = fitting _ _ (clear_is _ _ _ (said (goal.at.returns-then-fi
 
 pub explained-requires : goal.explained-requires
 unfolding owner_meant
-explained-requires c = record { lent = c.requires.lent; shaped_step = c.requires.shaped_step; k_value = unfitting _ _ (clear_is _ _ _ (said (goal.at.explained-requires c).After-owner-told c.in-Judged.is)).1 c.if-fits.false; }
+explained-requires c = record { lent = c.requires.lent; shaped_step = c.requires.shaped_step; k_value = unfitting _ _ (clear_is _ _ _ (said (goal.at.explained-requires c).After-owner-told c.in-Judged.is)).1 c.if-fits.false }
 
 pub returns-in-Stray : goal.returns-in-Stray
 unfolding owner_meant failure_meant

@@ -16,13 +16,13 @@ unfolding regard_meant
 party q = q.premises_lack-2.ensures ∙ party_is q.requires.lent q.requires.shaped_step.0 q.requires.shaped_step.1 q.agent_of-agent.ensures
 
 pub premises_lack-requires : goal.premises_lack-requires
-premises_lack-requires c = record { lent = (c.requires.lent, premises_there c.requires.lent c.requires.shaped_step.0 c.requires.shaped_step.1); rule_bound = rule_number c.requires.lent c.requires.shaped_step.0 c.requires.shaped_step.1; }
+premises_lack-requires c = record { lent = (c.requires.lent, premises_there c.requires.lent c.requires.shaped_step.0 c.requires.shaped_step.1); rule_bound = rule_number c.requires.lent c.requires.shaped_step.0 c.requires.shaped_step.1 }
 
 pub returns-then-premises_lack : goal.returns-then-premises_lack
 returns-then-premises_lack c = is_24 _ _ (sym (kind (goal.at.returns-then-premises_lack c).After-premises_lack) ∙ c.if-premises_lack.true)
 
 pub premises_lack-requires-2 : goal.premises_lack-requires-2
-premises_lack-requires-2 c = record { lent = (c.requires.lent, premises_there c.requires.lent c.requires.shaped_step.0 c.requires.shaped_step.1); rule_bound = rule_number c.requires.lent c.requires.shaped_step.0 c.requires.shaped_step.1; }
+premises_lack-requires-2 c = record { lent = (c.requires.lent, premises_there c.requires.lent c.requires.shaped_step.0 c.requires.shaped_step.1); rule_bound = rule_number c.requires.lent c.requires.shaped_step.0 c.requires.shaped_step.1 }
 
 pub returns-then-premises_lack-2 : goal.returns-then-premises_lack-2
 returns-then-premises_lack-2 c = is_25 _ _ (sym (kind (goal.at.returns-then-premises_lack-2 c).After-premises_lack) ∙ c.if-premises_lack.false) (sym (party (goal.at.returns-then-premises_lack-2 c).After-premises_lack-2) ∙ c.if-premises_lack-2.true)

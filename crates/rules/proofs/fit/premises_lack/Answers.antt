@@ -1,5 +1,5 @@
 -- `premises_lack` meets its contract. The loop's invariant: the premises before `i` have no fault. Assumes nothing.
-use Prim.Native.Nat.{◌+◌, ◌-◌}
+use Prim.Native.Nat.{◌+◌}
 use mathlib.Core.Path.{◌≡◌, sym, ap₂, ◌∙◌}
 use native.Mathlib.Omega.{arith}
 use Rattle.definition.specs.14-Book.{tree_in, book as trees}

@@ -4,7 +4,7 @@ use Rattle.rules.specs.Policies.{policy_meant}
 use Rattle.rules.proofs.policies.is_that.Goals as goal
 
 pub is_row-requires : goal.is_row-requires
-is_row-requires c = record { numbered = c.requires.numbered; tells = rw c.in-Of.is at c.requires.told; }
+is_row-requires c = record { numbered = c.requires.numbered; tells = rw c.in-Of.is at c.requires.told }
 
 pub returns-in-Nothing : goal.returns-in-Nothing
 unfolding is_that policy_meant

@@ -4,12 +4,12 @@ use Rattle.rules.proofs.RuleNumbers.{by_label, label_there, obligation_there, na
 use Rattle.rules.proofs.sixteen.by_argument.Goals as goal
 
 pub duty_by_obligation-requires : goal.duty_by_obligation-requires
-duty_by_obligation-requires c = record { lent = c.requires.lent; obligation_bound = obligation_there c.args.file.now c.args.argument (names_obligation c.in-12.is) c.requires.argued.1; }
+duty_by_obligation-requires c = record { lent = c.requires.lent; obligation_bound = obligation_there c.args.file.now c.args.argument (names_obligation c.in-12.is) c.requires.argued.1 }
 
 pub by_label-requires : goal.by_label-requires
 by_label-requires c = let m = c.in_default.in_default-own.rest in
     let label = by_label c.requires.argued.0 m.0.0.1 m.0.1 m.1 in
-    record { lent = c.requires.lent; one_of_three = (label, label_there c.args.file.now c.args.argument (names_label label) c.requires.argued.1); }
+    record { lent = c.requires.lent; one_of_three = (label, label_there c.args.file.now c.args.argument (names_label label) c.requires.argued.1) }
 
 pub returns-in-12 : goal.returns-in-12
 unfolding rule rules rule_at

@@ -6,7 +6,7 @@ use Rattle.rules.proofs.FormulaParts.{term_kind}
 use Rattle.rules.proofs.sixteen.for_all_elim.Goals as goal
 
 pub is_body-requires : goal.is_body-requires
-is_body-requires c = record { numbered = (c.requires.1, c.requires.0); g_value = term_kind _ _ (sym c.admits_term.ensures ∙ c.if-admits_term.true); }
+is_body-requires c = record { numbered = (c.requires.1, c.requires.0); g_value = term_kind _ _ (sym c.admits_term.ensures ∙ c.if-admits_term.true) }
 
 pub returns-then-admits_term : goal.returns-then-admits_term
 unfolding for_all_elim first

@@ -6,7 +6,7 @@ use Rattle.rules.proofs.FormulaParts.{parameter_kind}
 use Rattle.rules.proofs.sixteen.for_all_intro.Goals as goal
 
 pub is_body-requires : goal.is_body-requires
-is_body-requires c = record { numbered = (c.requires.0, c.requires.1); g_value = parameter_kind _ _ (sym c.admits_parameter.ensures ∙ c.if-admits_parameter.true); }
+is_body-requires c = record { numbered = (c.requires.0, c.requires.1); g_value = parameter_kind _ _ (sym c.admits_parameter.ensures ∙ c.if-admits_parameter.true) }
 
 pub returns-then-admits_parameter : goal.returns-then-admits_parameter
 unfolding for_all_intro first

@@ -13,7 +13,7 @@ pub row_at-row-requires : goal.row_at-row-requires
 row_at-row-requires c = readable c.requires.numbered.0
 
 pub is_body_with-requires : goal.is_body_with-requires
-is_body_with-requires c = record { good_row = (good_row (for_all_body c.row_at-row.result c.requires.numbered.0 c.row_at-row.ensures (kind (goal.at.is_body_with-requires c).After-row_at-row)), for_all_policy c.row_at-row.result c.requires.numbered.0 c.row_at-row.ensures (kind (goal.at.is_body_with-requires c).After-row_at-row)); good_row_2 = good_row c.requires.numbered.1; }
+is_body_with-requires c = record { good_row = (good_row (for_all_body c.row_at-row.result c.requires.numbered.0 c.row_at-row.ensures (kind (goal.at.is_body_with-requires c).After-row_at-row)), for_all_policy c.row_at-row.result c.requires.numbered.0 c.row_at-row.ensures (kind (goal.at.is_body_with-requires c).After-row_at-row)); good_row_2 = good_row c.requires.numbered.1 }
 
 pub returns : goal.returns
 returns c = rw (body_with_lem c.row_at-row.result c.requires.numbered.0 c.row_at-row.ensures _ (kind (goal.at.returns c).After-row_at-row) c.sort_of-sort.ensures) c.is_body_with.ensures

@@ -23,7 +23,7 @@ returns-then-many-len c = owner_by c.row_at-own.result c.requires.lent.2 c.row_a
     (other_count c.args.file.now _ _ c.args.set.now c.requires.set_len.0 c.requires.set_len.1 c.requires.set_len.2 c.args.from c.if-many-len.true)
 
 pub owns_each-requires : goal.owns_each-requires
-owns_each-requires c = record { lent = (c.requires.lent.0, rw c.if-many-len.false c.requires.lent.1); set_len = (c.requires.set_len.0, c.requires.set_len.1); }
+owns_each-requires c = record { lent = (c.requires.lent.0, rw c.if-many-len.false c.requires.lent.1); set_len = (c.requires.set_len.0, c.requires.set_len.1) }
 
 pub returns : goal.returns
 returns c = owner_by c.row_at-own.result c.requires.lent.2 c.row_at-own.ensures _ c.args.file.now c.if-own-ne2.false c.agent_of-agent.ensures c.requires.f_value c.is_says.ensures (ap not c.if-not-is_says.false)

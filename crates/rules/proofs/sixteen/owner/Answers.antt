@@ -16,13 +16,13 @@ said : (d : After-data_of-told) {x : Data} → d.data_of-told.result ≡ x → d
 said d e = sym (ap data_meant e) ∙ d.data_of-told.ensures.0
 
 pub data_of-told-requires : goal.data_of-told-requires
-data_of-told-requires c = record { good_row = (good_row c.requires.numbered.0, c.requires.numbered.1); set_len = refl; }
+data_of-told-requires c = record { good_row = (good_row c.requires.numbered.0, c.requires.numbered.1); set_len = refl }
 
 pub owned-fits-requires : goal.owned-fits-requires
 unfolding data_meant
 owned-fits-requires c = let l = c.data_of-told.ensures.1 in
     let w = clear_is _ _ _ (said (goal.at.owned-fits-requires c).After-data_of-told c.in-Listed.is) in
-    record { lent = (c.requires.lent.0, c.requires.lent.1, c.requires.numbered.0); set_len = (l.long, rw w.1 l.few, rw w.1 l.is); f_value = w.0; }
+    record { lent = (c.requires.lent.0, c.requires.lent.1, c.requires.numbered.0); set_len = (l.long, rw w.1 l.few, rw w.1 l.is); f_value = w.0 }
 
 pub returns-in-Stray : goal.returns-in-Stray
 unfolding owner_meant data_meant

@@ -1,5 +1,5 @@
 -- `owns_each` meets its contract. The loop's invariant: the premises before `i` are as the table has them. Assumes nothing.
-use Prim.Native.Nat.{◌+◌, ◌-◌}
+use Prim.Native.Nat.{◌+◌}
 use mathlib.Core.Path.{◌≡◌, sym, ◌∙◌}
 use native.Mathlib.Omega.{arith}
 use Rattle.rules.specs.PremiseFormulas.{PremiseThere}
@@ -44,10 +44,10 @@ loop-i-smaller c = omega (arith, c.loop-i-test.true)
 
 pub loop-i-preserved : goal.loop-i-preserved
 loop-i-preserved c = (
-      omega (arith, c.loop-i-test.true),
-      owned_more c.args.file.now c.args.agent c.args.set.now c.args.from c.loop-i.invariant.1
-          (compared c.requires.lent.0 c.premise_formula-premise.ensures _ ((sym c.is_owns.ensures ∙ c.if-not-is_owns.false))),
-    )
+  omega (arith, c.loop-i-test.true),
+  owned_more c.args.file.now c.args.agent c.args.set.now c.args.from c.loop-i.invariant.1
+      (compared c.requires.lent.0 c.premise_formula-premise.ensures _ ((sym c.is_owns.ensures ∙ c.if-not-is_owns.false))),
+)
 
 pub returns : goal.returns
 returns c = let l = c.loop-i in

@@ -47,7 +47,7 @@ unfolding failure_meant is_that policy_meant
 returns-in_default-conclusion c = sym (stops _ _ 18 _ (refl, refl, rw (concluded (goal.at.returns-in_default-conclusion c).After-conclusion_of-conclusion, c.in_default-conclusion.is)))
 
 pub is_row-requires : goal.is_row-requires
-is_row-requires c = record { numbered = c.requires.case_lent.1; tells = rw c.in-Of.is at c.conclusion_of-conclusion.ensures.told; }
+is_row-requires c = record { numbered = c.requires.case_lent.1; tells = rw c.in-Of.is at c.conclusion_of-conclusion.ensures.told }
 
 pub returns : goal.returns
 unfolding is_that policy_meant

@@ -1,5 +1,4 @@
 -- `take_premises` meets its contract: the premises from `j` on decide as all of them do. Assumes nothing.
-use Prim.Native.Nat.{◌-◌}
 use mathlib.Core.Path.{sym, ◌∙◌}
 use mathlib.Core.Bool.{or-true}
 use native.Mathlib.Omega.{arith}

@@ -27,7 +27,7 @@ returns-then-not-closed_policy c = let s = c.args.file.now in
     rw (misshapen_is s k, open-formula, or-true)
 
 pub bad_premise_span-requires : goal.bad_premise_span-requires
-bad_premise_span-requires c = record { parted = (c.requires.booked.0.parted, c.requires.booked.1); from_value = (c.requires.step_fields.0.from, c.requires.step_fields.0.len); }
+bad_premise_span-requires c = record { parted = (c.requires.booked.0.parted, c.requires.booked.1); from_value = (c.requires.step_fields.0.from, c.requires.step_fields.0.len) }
 
 pub returns-then-bad_premise_span : goal.returns-then-bad_premise_span
 unfolding bad_premise_span

@@ -22,7 +22,7 @@ label_at-label-requires c = (parted c.requires.lent.0, c.requires.l_bound)
 
 pub formula_has-requires : goal.formula_has-requires
 unfolding sought_meant
-formula_has-requires c = record { good_row = good_row (label_numbered c.requires.lent.0 c.requires.l_bound c.label_at-label.ensures.formula); present = term_present c.args.term c.requires.lent.1; }
+formula_has-requires c = record { good_row = good_row (label_numbered c.requires.lent.0 c.requires.l_bound c.label_at-label.ensures.formula); present = term_present c.args.term c.requires.lent.1 }
 
 pub returns-then-has : goal.returns-then-has
 unfolding sought_meant

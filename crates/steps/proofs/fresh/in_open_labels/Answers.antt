@@ -1,5 +1,4 @@
 -- `in_open_labels` meets its contract. The loop's invariant: the term stands in no open label before `l`. Assumes nothing.
-use Prim.Native.Nat.{◌-◌}
 use mathlib.Core.Path.{sym, ◌∙◌}
 use native.Mathlib.Omega.{arith}
 use Rattle.case_file.proofs.LentCaseLaws.{parted}
@@ -13,7 +12,7 @@ pub loop-l-init : goal.loop-l-init
 loop-l-init c = λ j lt. absurd (omega arith)
 
 pub in_open_label-requires : goal.in_open_label-requires
-in_open_label-requires c = record { lent = c.requires; l_bound = omega (arith, c.count_of-n.ensures.0, c.loop-l-test.true); }
+in_open_label-requires c = record { lent = c.requires; l_bound = omega (arith, c.count_of-n.ensures.0, c.loop-l-test.true) }
 
 pub returns-then-in_open_label : goal.returns-then-in_open_label
 returns-then-in_open_label c = label_found c.args.file.now c.args.term c.args.above.bits c.loop-l.l

@@ -19,7 +19,7 @@ returns-then-step-ne14 c = other_rule c.requires.lent c.requires.shaped_step.1 c
 
 pub formula_has-requires : goal.formula_has-requires
 unfolding sought_meant
-formula_has-requires c = record { good_row = good_row (own_numbered c.requires.lent c.requires.shaped_step.0 c.requires.shaped_step.1); present = term_present c.args.step.argument (there (goal.at.formula_has-requires c).Start c.if-step-ne14.false); }
+formula_has-requires c = record { good_row = good_row (own_numbered c.requires.lent c.requires.shaped_step.0 c.requires.shaped_step.1); present = term_present c.args.step.argument (there (goal.at.formula_has-requires c).Start c.if-step-ne14.false) }
 
 pub returns-then-formula_has : goal.returns-then-formula_has
 unfolding sought_meant

@@ -34,7 +34,7 @@ unfolding failure_meant above_checks
 returns-then-not_fresh c s table above = sym (stops _ _ 19 _ (refl, refl, sym (stale (goal.at.returns-then-not_fresh c).After-not_fresh s above) ∙ c.if-not_fresh.true))
 
 pub no_tautology-requires : goal.no_tautology-requires
-no_tautology-requires c = record { parted = parted c.requires.lent; shaped_step = c.requires.shaped_step; }
+no_tautology-requires c = record { parted = parted c.requires.lent; shaped_step = c.requires.shaped_step }
 
 pub overflow_cast-result-then-no_tautology : goal.overflow_cast-result-then-no_tautology
 overflow_cast-result-then-no_tautology c = omega (arith, place_few c.requires.lent c.requires.shaped_step.0 c.requires.shaped_step.1)

@@ -32,7 +32,7 @@ pub overflow_cast-place : goal.overflow_cast-place
 overflow_cast-place c = omega (arith, c.requires.k_bound.0, steps_few _ (parted c.requires.case_lent.0.lent))
 
 pub misshapen-requires : goal.misshapen-requires
-misshapen-requires c = record { booked = (c.requires.case_lent.0.lent.booked, c.requires.k_bound.0); step_fields = c.requires.step_fields; }
+misshapen-requires c = record { booked = (c.requires.case_lent.0.lent.booked, c.requires.k_bound.0); step_fields = c.requires.step_fields }
 
 pub returns-then-misshapen : goal.returns-then-misshapen
 returns-then-misshapen c = judged_12 _ _ _ _ _ c.refused.ensures (sym c.misshapen.ensures ∙ c.if-misshapen.true) c.requires.left_len.0
@@ -41,7 +41,7 @@ pub take_premises-requires : goal.take_premises-requires
 take_premises-requires c = let s = c.args.file.now in
     let is = c.requires.step_fields.0 in
     let within = (shaped s c.args.k (sym c.misshapen.ensures ∙ c.if-misshapen.false)).span in
-    record { parted = (parted c.requires.case_lent.0.lent, omega (arith, within, is.from, is.len)); k_bound = (omega (arith, c.requires.k_bound.0, steps_few s (parted c.requires.case_lent.0.lent)), c.requires.left_len.0); }
+    record { parted = (parted c.requires.case_lent.0.lent, omega (arith, within, is.from, is.len)); k_bound = (omega (arith, c.requires.k_bound.0, steps_few s (parted c.requires.case_lent.0.lent)), c.requires.left_len.0) }
 
 pub returns-then-take_premises : goal.returns-then-take_premises
 returns-then-take_premises c = let is = c.requires.step_fields.0 in
@@ -52,12 +52,12 @@ rests_above-above-requires c = let s = c.args.file.now in
     let is = c.requires.step_fields.0 in
     let within = (shaped s c.args.k (fine (goal.at.rests_above-above-requires c).After-take_premises)).span in
     let below = premises_below _ _ _ c.args.discharged.now _ _ _ _ (fine (goal.at.rests_above-above-requires c).After-take_premises) is.from is.len c.take_premises.ensures c.if-take_premises.false in
-    record { parted = (parted c.requires.case_lent.0.lent, omega (arith, within, is.from, is.len)); premises_below = (λ j up lt. omega (arith, below j up lt, c.requires.k_bound.0, steps_few s (parted c.requires.case_lent.0.lent)), c.take_premises.ensures.long); bits_value = c.requires.case_lent.1; }
+    record { parted = (parted c.requires.case_lent.0.lent, omega (arith, within, is.from, is.len)); premises_below = (λ j up lt. omega (arith, below j up lt, c.requires.k_bound.0, steps_few s (parted c.requires.case_lent.0.lent)), c.take_premises.ensures.long); bits_value = c.requires.case_lent.1 }
 
 pub check_uses-fault-requires : goal.check_uses-fault-requires
 check_uses-fault-requires c = let is = c.requires.step_fields.0 in
     let stands = shaped_step _ _ _ c.args.discharged.now _ _ _ _ (fine (goal.at.check_uses-fault-requires c).After-take_premises) is.from is.len c.take_premises.ensures c.if-take_premises.false _ (cites (goal.at.check_uses-fault-requires c).After-check_citation-cited) c.in-None.is c.requires.k_bound.0 c.requires.k_bound.1 in
-    record { case_lent = (c.requires.case_lent.0, c.requires.left_len.1); shaped_step = (stands, is); shape_value = (c.requires.step_fields.1, c.requires.case_lent.1); }
+    record { case_lent = (c.requires.case_lent.0, c.requires.left_len.1); shaped_step = (stands, is); shape_value = (c.requires.step_fields.1, c.requires.case_lent.1) }
 
 pub returns-in-At : goal.returns-in-At
 returns-in-At c = let is = c.requires.step_fields.0 in

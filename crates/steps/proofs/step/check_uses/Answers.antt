@@ -37,7 +37,7 @@ pub used_twice-requires : goal.used_twice-requires
 unfolding case_of rule_of
 used_twice-requires c = let s = c.args.file.now in
     let there = entries_there s (parted c.requires.case_lent.0.lent) _ _ c.requires.shaped_step.0.cites in
-    record { parted = (parted c.requires.case_lent.0.lent, c.requires.case_lent.1); entry_there = rw (c.requires.shape_value.0, c.requires.shaped_step.1.argument) there; bits_value = c.requires.shape_value.1; }
+    record { parted = (parted c.requires.case_lent.0.lent, c.requires.case_lent.1); entry_there = rw (c.requires.shape_value.0, c.requires.shaped_step.1.argument) there; bits_value = c.requires.shape_value.1 }
 
 pub overflow_cast-result : goal.overflow_cast-result
 overflow_cast-result c = omega (arith, place_few c.requires.case_lent.0.lent c.requires.shaped_step.0 c.requires.shaped_step.1)

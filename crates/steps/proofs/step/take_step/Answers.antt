@@ -40,7 +40,7 @@ pub check_step-judged-requires : goal.check_step-judged-requires
 unfolding case_of rule_of
 check_step-judged-requires c = let step = c.step_at-step.ensures in
     let shape = c.shape_of-shape.ensures ∙ ap (λ n. shape_of (rule_at n)) step.rule in
-    record { case_lent = c.requires.case_lent; k_bound = c.requires.k_bound; step_fields = (step, shape); left_len = (c.requires.tables.left, c.requires.tables.discharged); }
+    record { case_lent = c.requires.case_lent; k_bound = c.requires.k_bound; step_fields = (step, shape); left_len = (c.requires.tables.left, c.requires.tables.discharged) }
 
 pub rests_on-rests-requires : goal.rests_on-rests-requires
 unfolding case_of rule_of shape_of rule_shape

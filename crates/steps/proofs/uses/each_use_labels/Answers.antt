@@ -1,11 +1,9 @@
 -- `each_use_labels` meets its contract. The loop's invariant: the set has the each-use labels below `l`. Assumes nothing.
-use Prim.Native.Nat.{◌-◌}
 use mathlib.Core.Path.{ap, ◌∙◌}
 use native.Mathlib.Omega.{arith}
 use Rattle.steps.specs.OpenLabels.{each_use_below, each_use_labels}
 use Rattle.case_file.proofs.LentCaseLaws.{labels_few}
 use Rattle.steps.proofs.OpenLabelLaws.{none_below}
-use Rattle.steps.proofs.uses.each_use_labels.Invariants.{Turn}
 use Rattle.steps.proofs.uses.each_use_labels.Goals as goal
 
 pub count_of-n-requires : goal.count_of-n-requires
@@ -19,7 +17,7 @@ loop-l-init c = record { all = c.count_of-n.ensures.0; few = omega (arith, c.cou
 
 pub with_label-set-requires : goal.with_label-set-requires
 with_label-set-requires c = let v = c.loop-l.invariant in
-    record { parted = (c.requires, omega (arith, v.all, c.loop-l-test.true)); bits_value = v.is; }
+    record { parted = (c.requires, omega (arith, v.all, c.loop-l-test.true)); bits_value = v.is }
 
 pub overflow_add-l : goal.overflow_add-l
 overflow_add-l c = omega (arith, c.loop-l-test.true, c.loop-l.invariant.few)

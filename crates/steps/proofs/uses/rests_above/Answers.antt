@@ -4,7 +4,6 @@ use mathlib.Core.Path.{◌≡◌}
 use native.Mathlib.Omega.{arith}
 use Rattle.case_file.proofs.LentCaseLaws.{labels_few, premises_few}
 use Rattle.steps.proofs.OpenLabelLaws.{above_nothing, above_more}
-use Rattle.steps.proofs.uses.rests_above.Invariants.{Turn}
 use Rattle.steps.proofs.uses.rests_above.Goals as goal
 
 pub nothing-above-requires : goal.nothing-above-requires

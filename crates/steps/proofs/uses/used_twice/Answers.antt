@@ -11,7 +11,7 @@ use Rattle.steps.proofs.uses.used_twice.Goals as goal
 
 pub discharged_before-requires : goal.discharged_before-requires
 unfolding shape_meant
-discharged_before-requires c = record { parted = c.requires.parted; obligation_there = c.requires.entry_there.obligation; }
+discharged_before-requires c = record { parted = c.requires.parted; obligation_there = c.requires.entry_there.obligation }
 
 pub returns-then-discharged_before : goal.returns-then-discharged_before
 unfolding twice_used shape_meant case_of is_each_use

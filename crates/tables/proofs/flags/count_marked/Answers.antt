@@ -1,5 +1,5 @@
 -- `count_marked` meets its contract. The loop's invariant: the count is that of the first `k`. Assumes nothing.
-use Prim.Native.Nat.{ℕ, ◌-◌}
+use Prim.Native.Nat.{ℕ}
 use mathlib.Core.Path.{◌≡◌, refl, ap, ◌∙◌}
 use native.Mathlib.Omega.{arith}
 use lib.ListN.{length}
@@ -32,7 +32,7 @@ unfolding marks
 loop-k-preserved c = let s = marks c.args.flags.now in
     let k = c.loop-k.k in
     elim c.if-flags-k.branch [
-      then-flags-k w ↦ omega (arith, count_hit s k w.if-flags-k.true)
+      | then-flags-k w ↦ omega (arith, count_hit s k w.if-flags-k.true)
       | else-flags-k w ↦ omega (arith, ap length (members_miss s k w.if-flags-k.false))
     ]
 

@@ -1,6 +1,6 @@
 -- `write_marked` meets its contract. The loop's invariant: the numbers of the first `k` stand in the room, and the rest is as it was.
 -- Assumes nothing.
-use Prim.Native.Nat.{ℕ, ◌+◌, ◌-◌, ◌<◌}
+use Prim.Native.Nat.{ℕ, ◌+◌, ◌<◌}
 use mathlib.Core.Path.{◌≡◌, refl, sym, ap, ap₂, ◌∙◌}
 use mathlib.Core.List.{List, ◌++◌}
 use native.Mathlib.Omega.{arith}
@@ -58,7 +58,7 @@ loop-k-preserved c = let a = c.args in
     let s = marks a.flags.now in
     let after : List ℕ → List ℕ = λ xs. xs ++ drop (length xs) a.room.now in
     elim c.if-flags-k.branch [
-      then-flags-k w ↦
+      | then-flags-k w ↦
           let lt : l.at < length a.room.now = omega (arith, count_hit s l.k w.if-flags-k.true, members_more s (l.k + 1) a.n (omega arith)) in (
             omega arith,
             omega (arith, count_hit s l.k w.if-flags-k.true),
@@ -66,10 +66,10 @@ loop-k-preserved c = let a = c.args in
                 ∙ front_more (members s l.k 0) a.room.now l.k (omega arith) ∙ sym (ap after (members_hit s l.k w.if-flags-k.true)),
           )
       | else-flags-k w ↦ (
-            omega arith,
-            omega (arith, ap length (members_miss s l.k w.if-flags-k.false)),
-            w.room-is ∙ l.invariant.2 ∙ sym (ap after (members_miss s l.k w.if-flags-k.false)),
-          )
+        omega arith,
+        omega (arith, ap length (members_miss s l.k w.if-flags-k.false)),
+        w.room-is ∙ l.invariant.2 ∙ sym (ap after (members_miss s l.k w.if-flags-k.false)),
+      )
     ]
 
 pub shape_of-room : goal.shape_of-room
