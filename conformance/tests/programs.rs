@@ -1282,7 +1282,7 @@ fn code(file: &str) -> String {
     kept.flat_map(|line| [line, "\n"]).collect()
 }
 
-/// What no contract can say of a call of C is read off the source: there is one read, its answer
+/// What no contract can say of a call of the system is read off the source: there is one read, its answer
 /// goes to `take_answer` and nobody else writes it, and what the program tells is all that it
 /// writes on standard output.
 #[test]
@@ -1290,19 +1290,24 @@ fn program_source() {
     let (input, main) = (code("input"), code("main"));
     let all = [&input, &main, &code("report"), &code("text")].map(String::as_str).concat();
     let count = |text: &str| all.matches(text).count();
-    assert_eq!(count("libc::"), 1);
+    // The system is asked in one place, and the answer goes on as it is.
+    assert_eq!((count("libc"), count(".read("), count("stdin.read(")), (0, 1, 1));
     assert!(input.contains(
-        "*got = libc::read(STDIN_FILENO, piece);\ntake_answer(done, *got, piece, buffer)\n"
+        "*got = number_of(stdin.read(piece));\ntake_answer(done, *got, piece, buffer)\n"
     ));
     assert_eq!(count("*got"), 2);
     assert_eq!(count("piece["), count("&piece[..more]") + count("&mut piece[..most]"));
+    assert_eq!((count("Stdin"), count("&mut Stdin")), (4, 4));
     // Each is defined and called once.
-    for function in ["take_answer(", "read_piece(", "read_on(", "read_case(", "judge_input("] {
+    for function in
+        ["number_of(", "take_answer(", "read_piece(", "read_on(", "read_case(", "judge_input("]
+    {
         assert_eq!(count(function), 2, "{function}");
     }
-    // Only `main` writes: the text told, and two complaints.
-    let (_, body) = main.split_once("fn main() {").expect("there is a main");
-    assert_eq!((count("io::write"), body.matches("io::write_all(").count()), (3, 3));
-    assert!(body.contains("io::write_all(STDOUT_FILENO, &text[..end])"));
-    assert_eq!(count("STDOUT_FILENO"), 1);
+    // Only `main` has the handle by which one writes, and it writes the text told, and two complaints.
+    let (_, body) = main.split_once("fn main(rt: HostRuntime) {").expect("there is a main");
+    assert_eq!((count("HostRuntime"), count("rt."), count("(rt;")), (1, 2, 2));
+    assert_eq!((count(".write"), count("print")), (1, 2));
+    assert_eq!(body.matches("rt.write_all(&text[..end])").count(), 1);
+    assert_eq!(body.matches("eprintln!(rt;").count(), 2);
 }
