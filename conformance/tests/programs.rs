@@ -1291,7 +1291,8 @@ fn program_source() {
     let all = [&input, &main, &code("report"), &code("text")].map(String::as_str).concat();
     let count = |text: &str| all.matches(text).count();
     // The system is asked in one place, and the answer goes on as it is.
-    assert_eq!((count("libc"), count(".read("), count("stdin.read(")), (0, 1, 1));
+    assert_eq!((count("libc"), count("io::"), count("std::")), (0, 1, 0));
+    assert_eq!((count(".read"), count("stdin."), count("stdin.read(")), (1, 1, 1));
     assert!(input.contains(
         "*got = number_of(stdin.read(piece));\ntake_answer(done, *got, piece, buffer)\n"
     ));
@@ -1307,6 +1308,7 @@ fn program_source() {
     // Only `main` has the handle by which one writes, and it writes the text told, and two complaints.
     let (_, body) = main.split_once("fn main(rt: HostRuntime) {").expect("there is a main");
     assert_eq!((count("HostRuntime"), count("rt."), count("(rt;")), (1, 2, 2));
+    assert_eq!((count("&rt"), count("write!"), count("writeln!")), (0, 0, 0));
     assert_eq!((count(".write"), count("print")), (1, 2));
     assert_eq!(body.matches("rt.write_all(&text[..end])").count(), 1);
     assert_eq!(body.matches("eprintln!(rt;").count(), 2);

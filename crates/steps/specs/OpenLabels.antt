@@ -18,9 +18,9 @@ unfoldable pub each_use_labels : List ℕ → Labels
 each_use_labels s = each_use_below s (count s label_part)
 
 -- One premise more, held against those that are there.
-pub record OneMore (each_use : Labels) (premise : Rests) (before after : Above) : Type 0 where
+pub record OneMore (each_uses : Labels) (premise : Rests) (before after : Above) : Type 0 where
   pub rests : rests_meant after.rests ≡ both_rests premise (rests_meant before.rests)
-  pub shared : after.shared ≡ (any (λ l. each_use l && premise.opens l && labels_of before.rests.opens.bits l) 32 0 || before.shared)
+  pub shared : after.shared ≡ (any (λ l. each_uses l && premise.opens l && labels_of before.rests.opens.bits l) 32 0 || before.shared)
 
 -- What the premises of the span rest on together, and whether two of them share an each-use label.
 pub record IsAbove (s : List ℕ) (from len : ℕ) (left : List ℕ) (r : Above) : Type 0 where

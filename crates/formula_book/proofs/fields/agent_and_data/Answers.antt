@@ -9,15 +9,15 @@ use Rattle.definition.specs.14-Book.{agent_and_data, in_place}
 use Rattle.formula_rows.specs.Meanings.{row_meant, sort_meant}
 use Rattle.formula_book.proofs.fields.agent_and_data.Goals as goal
 
-some-code : (n : ℕ) → 0 < n → eqb n 0 ≡ false
-some-code n lt = ne_eqb n 0 (λ e. omega (arith, lt, e))
+some_code : (n : ℕ) → 0 < n → eqb n 0 ≡ false
+some_code n lt = ne_eqb n 0 (λ e. omega (arith, lt, e))
 
 no_code : (n : ℕ) → n ≤ 0 → eqb n 0 ≡ true
 no_code n le = eq-eqb n 0 (omega (arith, le))
 
 pub returns-then-row-gt0 : goal.returns-then-row-gt0
 unfolding agent_and_data in_place row_meant sort_meant
-returns-then-row-gt0 c = rw (some-code _ c.if-row-gt0.true)
+returns-then-row-gt0 c = rw (some_code _ c.if-row-gt0.true)
 
 pub returns-then-not-has_sort : goal.returns-then-not-has_sort
 unfolding agent_and_data in_place row_meant sort_meant

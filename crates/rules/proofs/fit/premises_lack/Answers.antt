@@ -13,7 +13,7 @@ use Rattle.rules.proofs.ComparedRows.{readable}
 use Rattle.rules.proofs.FormulaParts.{told}
 use Rattle.rules.proofs.OwnedData.{premise_few}
 use Rattle.rules.proofs.PremiseFaults.{none_more, one_faulty, none_faulty}
-use Rattle.rules.proofs.fit.premises_lack.Invariants.{formulaAt}
+use Rattle.rules.proofs.fit.premises_lack.Invariants.{formula_at}
 use Rattle.rules.proofs.fit.premises_lack.Goals as goal
 use Rattle.rules.proofs.fit.premises_lack.Goals.{After-lacks, After-premise_formula-premise, In-loop-i}
 
@@ -27,7 +27,7 @@ of_book c = rw c.premise_formula-premise.ensures (numbered c.requires.lent.0 ((c
 
 -- What is found of it is what the definition finds.
 looked :
-    (c : After-lacks) → c.lacks.result ≡ regard_meant c.args.regard ((rule_at c.args.rule).asks c.loop-i.i) (formulaAt c.args.file.now (c.args.from + c.loop-i.i))
+    (c : After-lacks) → c.lacks.result ≡ regard_meant c.args.regard ((rule_at c.args.rule).asks c.loop-i.i) (formula_at c.args.file.now (c.args.from + c.loop-i.i))
 looked c =
     let row = c.row_at-row in
     c.lacks.ensures (tree_in (trees c.args.book.now) c.premise_formula-premise.result) (told row.result ((rw c.premise_formula-premise.ensures (numbered c.requires.lent.0 ((c.requires.lent.1 (c.args.from + c.loop-i.i) (omega arith) (omega (arith, c.loop-i-test.true)))).formula))) row.ensures)
@@ -59,7 +59,7 @@ pub loop-i-smaller : goal.loop-i-smaller
 loop-i-smaller c = omega (arith, c.loop-i-test.true)
 
 pub loop-i-preserved : goal.loop-i-preserved
-loop-i-preserved c = (omega (arith, c.loop-i-test.true), none_more (regard_meant c.args.regard) (rule_at c.args.rule).asks (formulaAt c.args.file.now) c.args.from c.loop-i.invariant.1 (sym (looked (goal.at.loop-i-preserved c).After-lacks) ∙ c.if-lacks.false))
+loop-i-preserved c = (omega (arith, c.loop-i-test.true), none_more (regard_meant c.args.regard) (rule_at c.args.rule).asks (formula_at c.args.file.now) c.args.from c.loop-i.invariant.1 (sym (looked (goal.at.loop-i-preserved c).After-lacks) ∙ c.if-lacks.false))
 
 pub returns : goal.returns
 unfolding premise_trees
