@@ -1,6 +1,6 @@
 -- The admission as the code goes through it: the formulas of a file whose layout is in order, and the rows that the table has got. Assumes nothing.
 use Prim.Native.Nat.{ℕ, ◌%◌}
-use mathlib.Core.Path.{◌≡◌, refl, sym, ◌∙◌}
+use mathlib.Core.Path.{◌≡◌, refl, sym, ap, ◌∙◌}
 use mathlib.Core.Bool.{false}
 use mathlib.Core.List.{List}
 use native.Mathlib.Omega.{arith}
@@ -29,9 +29,13 @@ module _ (s : List ℕ) (g : Parted s) where
       rw (eq-eqb (length (part s formula_part) % row_bytes) 0 whole, le-ltb 1024 (book_rows (part s formula_part)) (omega (arith, rows_are, part_few s g formula_part (omega arith))))
 
   -- The formula part is no misshapen book, so checks 3 and 4 decide.
-  pub book_checked : book_admission (part s formula_part) ≡ in_order (book_checks (part s formula_part))
+  book_checked : book_admission (part s formula_part) ≡ in_order (book_checks (part s formula_part))
   unfolding book_admission
   book_checked = goes_on _ _ shapely
+
+  -- An answer about the book, which is this part, is the answer of those checks.
+  pub book_answer : {b : List ℕ} {r : Checked (Unit {0})} → b ≡ part s formula_part → r ≡ book_admission b → r ≡ in_order (book_checks (part s formula_part))
+  book_answer e answer = answer ∙ ap book_admission e ∙ book_checked
 
   pub booked : {b : List ℕ} → b ≡ part s formula_part → accepts tt ≡ in_order (book_checks (part s formula_part)) → Booked s b
   booked e passed = record { parted = g; is = e; book = record { passes = rw e (book_checked ∙ sym passed) } }

@@ -9,7 +9,8 @@ use borrow.Author.Tests.{leb-true, leb-false, lt-ltb, le-ltb, eq-eqb, ne_eqb}
 use Rattle.definition.specs.02-Ranges.{any}
 use Rattle.definition.specs.12-Terms.{agents, class_of, is_object}
 use Rattle.definition.specs.15-Records.{observer, bad_observer}
-use Rattle.case_file.specs.Seen.{faulty, unseen, seen, list_answer}
+use Rattle.std.specs.Prelude.{Some, None}
+use Rattle.case_file.specs.Seen.{list_answer}
 
 -- A walk up to `end` asks the first number, and then the others.
 any_first : (p : ℕ → Bool) (j end : ℕ) → j < end → any p (end - j) j ≡ p j || any p (end - (j + 1)) (j + 1)
@@ -58,14 +59,14 @@ module _ (s : List ℕ) (agent from len : ℕ) where
       record { past = omega arith; due = rw (eq-eqb from from refl); fine = rw all; among = rw all }
 
   module _ (low : ℕ) (found : Bool) (j : ℕ) (l : Looked low found j) (inside : j < from + len) where
-    bad_entry : bad_observer s from j ≡ true → faulty ≡ list_answer s agent from len
+    bad_entry : bad_observer s from j ≡ true → None ≡ list_answer s agent from len
     unfolding list_answer
     bad_entry e = rw (l.fine ∙ any_first (bad_observer s from) j (from + len) inside, e)
 
-    pub looked_low : observer s j < low → faulty ≡ list_answer s agent from len
+    pub looked_low : observer s j < low → None ≡ list_answer s agent from len
     looked_low lt = bad_entry (rw (bad_is j, ← l.due, lt-ltb (observer s j) low lt, or-true))
 
-    pub looked_other : is_object agents (class_of (observer s j)) ≡ false → faulty ≡ list_answer s agent from len
+    pub looked_other : is_object agents (class_of (observer s j)) ≡ false → None ≡ list_answer s agent from len
     looked_other e = bad_entry (rw (bad_is j, e))
 
     pub looked_more :
@@ -82,10 +83,10 @@ module _ (s : List ℕ) (agent from len : ℕ) where
           among = rw (l.among ∙ ap (λ b. found || b) (any_first is_agent j (from + len) inside), is, or_assoc);
         }
 
-  pub looked_end : (low : ℕ) (found : Bool) (j : ℕ) → Looked low found j → from + len ≤ j → cond found seen unseen ≡ list_answer s agent from len
+  pub looked_end : (low : ℕ) (found : Bool) (j : ℕ) → Looked low found j → from + len ≤ j → Some found ≡ list_answer s agent from len
   unfolding list_answer is_agent
   looked_end low found j l le =
-      rw (l.fine ∙ any_past (bad_observer s from) j (from + len) le) (ap (λ b. cond b seen unseen) (sym (l.among ∙ stays)))
+      rw (l.fine ∙ any_past (bad_observer s from) j (from + len) le) (ap Some (sym (l.among ∙ stays)))
     where
       stays : found || any is_agent (from + len - j) j ≡ found
       stays = rw (any_past is_agent j (from + len) le, or-false)

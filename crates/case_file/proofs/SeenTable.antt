@@ -1,7 +1,7 @@
 -- The rows of a log whose formulas checks 3 and 4 let pass: what a row comes to, and the table of what the agent sees. Assumes nothing.
 use Prim.Native.Nat.{ℕ, ◌+◌, ◌≤◌, ◌<◌}
 use mathlib.Core.Path.{◌≡◌, refl, sym, ap, ◌∙◌}
-use mathlib.Core.Bool.{Bool, true, false, cond, ◌||◌, or-true, false≢true, true≢false}
+use mathlib.Core.Bool.{Bool, true, false, cond, ◌||◌, or-true, false≢true}
 use mathlib.Core.Logic.{◌⊎◌, ⊎_elim}
 use mathlib.Core.List.{List}
 use native.Mathlib.Nat.{eq-or-lt_of_le, le_of_suc-le-suc}
@@ -20,7 +20,8 @@ use Rattle.formula_book.proofs.Laws.{admitted_few, beyond}
 use Rattle.definition.specs.15-Records.{Log, rows_in, observers_in, row_action, row_from, row_count, observer, span_due, span_fault, bad_span, is_ground_action, bad_observer, bad_action, bad_log_row}
 use Rattle.definition.specs.16-Views.{seen_in, view_of, row_view}
 use Rattle.formula_book.specs.AdmittedBooks.{AdmittedBook}
-use Rattle.case_file.specs.Seen.{hidden_code, view_code, code_view, SeenUpTo, ListAnswer, faulty, unseen, seen, list_answer, RowAnswer, bad, good, row_answer}
+use Rattle.std.specs.Prelude.{Option, Some, None}
+use Rattle.case_file.specs.Seen.{hidden_code, view_code, code_view, SeenUpTo, list_answer, row_answer}
 use Rattle.definition.proofs.Spans.{span_holds}
 use Rattle.definition.proofs.ViewLaws.{seen_any}
 
@@ -28,10 +29,9 @@ newest : (j k : ℕ) → j < k + 1 → (j ≡ k) ⊎ (j < k)
 newest j k lt = eq-or-lt_of_le (le_of_suc-le-suc (rw (add-one k) at lt))
 
 -- What a row with this list comes to.
-unfoldable pub listed : ListAnswer → (action end : ℕ) → RowAnswer
-listed faulty a e = bad
-listed unseen a e = good hidden_code e
-listed seen a e = good a e
+unfoldable pub listed : Option Bool → (action end : ℕ) → Option (ℕ × ℕ)
+listed None a e = None
+listed (Some seen) a e = Some (view_code seen a, e)
 
 -- The span of row k of a log.
 module _ (g : Log) (k : ℕ) where
@@ -56,11 +56,11 @@ module _ (g : Log) (agent : ℕ) (l : List Formula) (k : ℕ) where
   unfolding bad_log_row row_list
   bad_row_is = refl
 
-  pub action_bad : bad_action l (row_action g k) ≡ true → bad ≡ row_answer g agent l k
+  pub action_bad : bad_action l (row_action g k) ≡ true → None ≡ row_answer g agent l k
   unfolding row_answer
   action_bad e = rw (bad_row_is, e)
 
-  pub span_bad : row_span g k ≡ true → bad ≡ row_answer g agent l k
+  pub span_bad : row_span g k ≡ true → None ≡ row_answer g agent l k
   unfolding row_answer
   span_bad e = rw (bad_row_is, e, or-true)
 
@@ -68,41 +68,37 @@ module _ (g : Log) (agent : ℕ) (l : List Formula) (k : ℕ) where
   pub row_listed :
       (action from len : ℕ) → action ≡ row_action g k → from ≡ row_from g k → len ≡ row_count g k →
       bad_action l (row_action g k) ≡ false → row_span g k ≡ false →
-      (a : ListAnswer) → a ≡ list_answer g.observers agent from len → listed a action (from + len) ≡ row_answer g agent l k
+      (a : Option Bool) → a ≡ list_answer g.observers agent from len → listed a action (from + len) ≡ row_answer g agent l k
   unfolding row_answer row_list list_answer view_code listed
   row_listed action from len act_is from_is len_is act_good span_good a is =
       rw (is, act_is, from_is, len_is, bad_row_is, act_good, span_good, seen_any g agent k (span_within g k span_good))
       (go (any (bad_observer g.observers (row_from g k)) (row_count g k) (row_from g k)) (any (λ j. eqb (observer g.observers j) agent) (row_count g k) (row_from g k)))
     where
-      go :
-          (b c : Bool) →
-          listed (cond b faulty (cond c seen unseen)) (row_action g k) (row_from g k + row_count g k)
-          ≡ cond b bad (good (cond c (row_action g k) hidden_code) (row_from g k + row_count g k))
+      go : (b c : Bool) → listed (cond b None (Some c)) (row_action g k) (row_from g k + row_count g k) ≡ cond b None (Some (view_code c (row_action g k), row_from g k + row_count g k))
       go true c = refl
-      go false true = refl
-      go false false = refl
+      go false c = refl
 
-  is_bad : RowAnswer → Bool
-  is_bad bad = true
-  is_bad (good c e) = false
-
-  pub answer_bad : bad ≡ row_answer g agent l k → bad_log_row g l k ≡ true
-  unfolding row_answer is_bad
+  pub answer_bad : None ≡ row_answer g agent l k → bad_log_row g l k ≡ true
+  unfolding row_answer
   answer_bad e = go (bad_log_row g l k) refl
     where
       go : (b : Bool) → bad_log_row g l k ≡ b → b ≡ true
       go true q = refl
-      go false q = absurd (true≢false (ap is_bad (rw q at e)))
+      go false q = absurd (absent_pair (rw q at e))
+        where
+          absent_pair : {p : ℕ × ℕ} → None ≡ Some p → ⊥
+          absent_pair w = cc
 
   pub answer_good :
-      (code end : ℕ) → good code end ≡ row_answer g agent l k →
+      (code end : ℕ) → ◌≡◌ {A = Option (ℕ × ℕ)} (Some (code, end)) (row_answer g agent l k) →
       (bad_log_row g l k ≡ false) × (code ≡ view_code (seen_in g agent k) (row_action g k)) × (end ≡ row_from g k + row_count g k)
-  unfolding row_answer is_bad
+  unfolding row_answer
   answer_good code end e = go (bad_log_row g l k) (view_code (seen_in g agent k) (row_action g k)) (row_from g k + row_count g k) e
     where
-      go : (b : Bool) (c f : ℕ) → good code end ≡ cond b bad (good c f) → (b ≡ false) × (code ≡ c) × (end ≡ f)
-      go true c f q = absurd (false≢true (ap is_bad q))
-      go false c f q = (refl, cc, cc)
+      go : (b : Bool) (c f : ℕ) → ◌≡◌ {A = Option (ℕ × ℕ)} (Some (code, end)) (cond b None (Some (c, f))) → (b ≡ false) × (code ≡ c) × (end ≡ f)
+      go true c f q = cc
+      go false c f q = let e : ◌≡◌ {A = ℕ × ℕ} (code, end) (c, f) = cc in
+          (refl, ap (λ (p : ℕ × ℕ). p.0) e, ap (λ (p : ℕ × ℕ). p.1) e)
 
 -- The table as the loop over the rows fills it.
 module _ (g : Log) (agent : ℕ) where

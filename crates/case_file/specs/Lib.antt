@@ -1,6 +1,6 @@
 pub mod Booked
 pub mod AdmissionRuns
-pub mod Entries
 pub mod Seen
 pub mod Meanings
+pub mod ViewSets
 pub mod LentCase

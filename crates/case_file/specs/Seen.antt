@@ -1,5 +1,5 @@
 -- What check 5 comes to at a row, and the table of what the agent sees: entry k, of row k, is the number of the row's action where the agent sees it, absent for a struck row, and 65,534 for a hidden one.
-use Rattle.std.specs.Prelude.{ℕ, ◌+◌, ◌<◌, Bool, cond, ◌≡◌, List, length, get_or, eqb}
+use Rattle.std.specs.Prelude.{ℕ, ◌+◌, ◌<◌, Bool, cond, ◌≡◌, List, length, get_or, eqb, Option, Some, None}
 use Rattle.definition.specs.01-Words.{absent}
 use Rattle.definition.specs.02-Ranges.{any, lowest}
 use Rattle.definition.specs.03-Lists.{Kept}
@@ -31,22 +31,13 @@ pub record SeenUpTo (g : Log) (agent n : ℕ) (old new : List ℕ) : Type 0 wher
   pub low : (k : ℕ) → k < n → get_or new k 0 ≡ view_code (seen_in g agent k) (row_action g k)
   pub rest : Kept n old new
 
--- What a list of observers says: it is at fault, or the agent is not among them, or is.
-pub data ListAnswer : Type 0 where
-  faulty unseen seen : ListAnswer
+-- What a list of observers says: none where it is at fault, or else whether the agent is among them. b are the bytes of the log's observers.
+unfoldable pub list_answer : List ℕ → (agent from len : ℕ) → Option Bool
+list_answer b agent from len = cond (any (bad_observer b from) len from) None (Some (any (λ j. eqb (observer b j) agent) len from))
 
--- b are the bytes of the log's observers.
-unfoldable pub list_answer : List ℕ → (agent from len : ℕ) → ListAnswer
-list_answer b agent from len =
-    cond (any (bad_observer b from) len from) faulty (cond (any (λ j. eqb (observer b j) agent) len from) seen unseen)
-
--- What a row comes to: it is bad, or this is its entry in the table and where its span ends.
-pub data RowAnswer : Type 0 where
-  bad : RowAnswer
-  good : (code end : ℕ) → RowAnswer
-
-unfoldable pub row_answer : Log → (agent : ℕ) → List Formula → ℕ → RowAnswer
-row_answer g agent l k = cond (bad_log_row g l k) bad (good (view_code (seen_in g agent k) (row_action g k)) (row_from g k + row_count g k))
+-- What a row comes to: none where it is bad, or else its entry in the table and where its span ends.
+unfoldable pub row_answer : Log → (agent : ℕ) → List Formula → ℕ → Option (ℕ × ℕ)
+row_answer g agent l k = cond (bad_log_row g l k) None (Some (view_code (seen_in g agent k) (row_action g k), row_from g k + row_count g k))
 
 -- The rows that get entries: those before the first bad one.
 unfoldable pub first_bad_row : Log → List Formula → ℕ

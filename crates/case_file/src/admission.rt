@@ -4,62 +4,46 @@ ghost use Rattle.definition.specs.04-Checks.{in_order};
 ghost use Rattle.definition.specs.11-Layout.{formula_part, part as part_of};
 ghost use Rattle.definition.specs.14-Book.{book_checks};
 ghost use Rattle.definition.specs.18-Admission.{Parted, checks_to_log, admission};
-ghost use Rattle.words.specs.Meanings.{failure_meant};
+ghost use Rattle.words.specs.Meanings.{run_meant};
 ghost use Rattle.case_file.specs.AdmissionRuns.{before_log, from_book};
 ghost use Rattle.case_file.specs.Seen.{SeenAfter};
 
 use crate::log_checks::check_log;
 use crate::record_checks::check_records;
-use case_parts::{FORMULAS, LOG, OBSERVERS, agent_of, check_layout, part};
-use words::Failure;
+use case_parts::{FORMULAS, agent_of, check_layout, log_of, part};
+use words::Refusal;
 
 // Checks 3 to 5, of a file whose parts are where the header says.
-fn admit_parts(file: &[u8], views: &mut [u16; 1024]) -> Failure
+fn admit_parts(file: &[u8], views: &mut [u16; 1024]) -> Result<(), Refusal>
     requires { Parted file.now × (length views.old ≡ 1024) }
-    ensures { (failure_meant result ≡ from_book file.now) × SeenAfter (in_order (book_checks (part_of file.now formula_part))) file.now views.old views.new }
+    ensures { (run_meant result ≡ from_book file.now) × SeenAfter (in_order (book_checks (part_of file.now formula_part))) file.now views.old views.new }
 {
     let book = part(file, FORMULAS);
-    let formulas = formula_book::admit(book);
-    match formulas {
-        Failure::At(number, place) => Failure::At(number, place),
-        Failure::None => {
-            let rows = part(file, LOG);
-            let observers = part(file, OBSERVERS);
-            check_log(rows, observers, agent_of(file), book, views)
-        }
-    }
+    formula_book::admit(book)?;
+    check_log(&log_of(file), agent_of(file), book, views)
 }
 
 // The first of checks 1 to 5 that fails, of any bytes, with the table of what the agent sees of each row: entries of rows beyond the first bad one, and all entries where checks 1 to 4 refuse, stay as they are.
-pub fn admit_log(file: &[u8], views: &mut [u16; 1024]) -> Failure
+pub fn admit_log(file: &[u8], views: &mut [u16; 1024]) -> Result<(), Refusal>
     requires { length views.old ≡ 1024 }
-    ensures { (failure_meant result ≡ in_order (checks_to_log file.now)) × SeenAfter (before_log file.now) file.now views.old views.new }
+    ensures { (run_meant result ≡ in_order (checks_to_log file.now)) × SeenAfter (before_log file.now) file.now views.old views.new }
 {
-    let layout = check_layout(file);
-    match layout {
-        Failure::At(number, place) => Failure::At(number, place),
-        Failure::None => admit_parts(file, views),
-    }
+    check_layout(file)?;
+    admit_parts(file, views)
 }
 
 // The first of checks 1 to 9 that fails, of any bytes, with the same table.
-pub fn admit_into(file: &[u8], views: &mut [u16; 1024]) -> Failure
+pub fn admit_into(file: &[u8], views: &mut [u16; 1024]) -> Result<(), Refusal>
     requires { length views.old ≡ 1024 }
-    ensures { (failure_meant result ≡ admission file.now) × SeenAfter (before_log file.now) file.now views.old views.new }
+    ensures { (run_meant result ≡ admission file.now) × SeenAfter (before_log file.now) file.now views.old views.new }
 {
-    let log = admit_log(file, views);
-    match log {
-        Failure::At(number, place) => Failure::At(number, place),
-        Failure::None => {
-            let book = part(file, FORMULAS);
-            check_records(file, book)
-        }
-    }
+    admit_log(file, views)?;
+    check_records(file, part(file, FORMULAS))
 }
 
 // The first of checks 1 to 9 that fails, of any bytes.
-pub fn admit(file: &[u8]) -> Failure
-    ensures { failure_meant result ≡ admission file.now }
+pub fn admit(file: &[u8]) -> Result<(), Refusal>
+    ensures { run_meant result ≡ admission file.now }
 {
     let mut views = [0u16; 1024];
     admit_into(file, &mut views)

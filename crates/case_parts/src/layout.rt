@@ -1,12 +1,11 @@
 // The header and the parts: checks 1 and 2, and reading from the header and from a part. The numbers of the layout stand here, but for the places of the fields within a record, which are in `records.rt`.
 ghost use Rattle.std.specs.Prelude.{◌≡◌, ◌<◌, ◌≤◌, length, ltb};
-ghost use Rattle.definition.specs.02-Ranges.{lowest};
 ghost use Rattle.definition.specs.04-Checks.{in_order};
 ghost use Rattle.definition.specs.11-Layout.{agent_of, action_of, hour_of, offset, size, end, count, header_bytes, record_bytes, most_records, due_offset, bad_length, orphans, is_misplaced, faulty_part, layout_checks, records_in, part as part_of};
 ghost use Rattle.definition.specs.18-Admission.{Parted};
-ghost use Rattle.words.specs.Meanings.{failure_meant};
+ghost use Rattle.words.specs.Meanings.{run_meant};
 
-use words::Failure;
+use words::{Check, Refusal, each, single};
 
 // The bytes of a header, and of the largest file.
 const HEADER_BYTES: usize = 38;
@@ -24,7 +23,7 @@ const FIRST_SIZE: usize = 6;
 
 const HOUR: usize = 36;
 
-// The parts, by their places.
+// The parts. A part's number is an index: its place in the header, and the place of a refusal by check 2.
 pub const FORMULAS: usize = 0;
 
 pub const LOG: usize = 1;
@@ -41,38 +40,23 @@ pub const STEPS: usize = 6;
 
 pub const PREMISES: usize = 7;
 
-// The bytes of a record of part `p`.
+// Of each part, the bytes of a record, and the most records that it may have.
+const RECORD_BYTES: [usize; 8] = [8, 6, 2, 2, 8, 4, 10, 2];
+
+const MOST_RECORDS: [usize; 8] = [1024, 1024, 4096, 64, 64, 32, 2048, 2048];
+
+// The bytes of a record of part `p`, or 1 where there is no such part.
 pub fn record_bytes(p: usize) -> usize
     ensures { result ≡ record_bytes p }
 {
-    match p {
-        0 => 8,
-        1 => 6,
-        2 => 2,
-        3 => 2,
-        4 => 8,
-        5 => 4,
-        6 => 10,
-        7 => 2,
-        _ => 1,
-    }
+    RECORD_BYTES.get(p).copied().unwrap_or(1)
 }
 
 // The most records that part `p` may have.
 fn most_records(p: usize) -> usize
     ensures { result ≡ most_records p }
 {
-    match p {
-        0 => 1024,
-        1 => 1024,
-        2 => 4096,
-        3 => 64,
-        4 => 64,
-        5 => 32,
-        6 => 2048,
-        7 => 2048,
-        _ => 0,
-    }
+    MOST_RECORDS.get(p).copied().unwrap_or(0)
 }
 
 // Where part `p` begins, as the header says it.
@@ -95,10 +79,7 @@ pub fn part_size(file: &[u8], p: usize) -> u16
 fn bad_length(file: &[u8]) -> bool
     ensures { result ≡ bad_length file.now }
 {
-    if file.len() < HEADER_BYTES {
-        return true;
-    }
-    LARGEST_FILE < file.len()
+    file.len() < HEADER_BYTES || LARGEST_FILE < file.len()
 }
 
 // Where part `p` has to begin.
@@ -107,9 +88,10 @@ fn due_offset(file: &[u8], p: usize) -> usize
     ensures { result ≡ due_offset file.now p }
 {
     if p == 0 {
-        return HEADER_BYTES;
+        HEADER_BYTES
+    } else {
+        part_offset(file, p - 1) as usize + part_size(file, p - 1) as usize
     }
-    part_offset(file, p - 1) as usize + part_size(file, p - 1) as usize
 }
 
 // Has part `q` records, and part `p` none?
@@ -117,10 +99,7 @@ fn has_orphans(file: &[u8], p: usize, q: usize) -> bool
     requires { (header_bytes ≤ length file.now) × ((p < 8) × (q < 8)) }
     ensures { result ≡ orphans file.now p q }
 {
-    if part_size(file, p) == 0 {
-        return 0 < part_size(file, q);
-    }
-    false
+    part_size(file, p) == 0 && 0 < part_size(file, q)
 }
 
 // Is part `p` not where it is due, no whole number of records, over the limit, or not all in the file?
@@ -131,16 +110,10 @@ fn misplaced(file: &[u8], p: usize) -> bool
     let from = part_offset(file, p) as usize;
     let bytes = part_size(file, p) as usize;
     let each = record_bytes(p);
-    if from != due_offset(file, p) {
-        return true;
-    }
-    if bytes % each != 0 {
-        return true;
-    }
-    if most_records(p) < bytes / each {
-        return true;
-    }
-    file.len() < from + bytes
+    from != due_offset(file, p)
+        || bytes % each != 0
+        || most_records(p) < bytes / each
+        || file.len() < from + bytes
 }
 
 // Does the file go on behind part `p`?
@@ -158,48 +131,18 @@ fn faulty_part(file: &[u8], p: usize) -> bool
     requires { (header_bytes ≤ length file.now) × (p < 8) }
     ensures { result ≡ faulty_part file.now p }
 {
-    if misplaced(file, p) {
-        return true;
-    }
-    if p == PREMISES {
-        if goes_on(file, PREMISES) {
-            return true;
-        }
-        return has_orphans(file, STEPS, PREMISES);
-    }
-    if p == OBSERVERS {
-        return has_orphans(file, LOG, OBSERVERS);
-    }
-    false
-}
-
-// The first faulty part, or 8.
-fn first_faulty(file: &[u8]) -> usize
-    requires { header_bytes ≤ length file.now }
-    ensures { result ≡ lowest (faulty_part file.now) 8 0 }
-{
-    let mut p: usize = 0;
-    while p < 8 {
-        if faulty_part(file, p) {
-            return p;
-        }
-        p += 1;
-    }
-    8
+    misplaced(file, p)
+        || (p == PREMISES && goes_on(file, p))
+        || (p == OBSERVERS && has_orphans(file, LOG, OBSERVERS))
+        || (p == PREMISES && has_orphans(file, STEPS, PREMISES))
 }
 
 // Checks 1 and 2.
-pub fn check_layout(file: &[u8]) -> Failure
-    ensures { failure_meant result ≡ in_order (layout_checks file.now) }
+pub fn check_layout(file: &[u8]) -> Result<(), Refusal>
+    ensures { run_meant result ≡ in_order (layout_checks file.now) }
 {
-    if bad_length(file) {
-        return Failure::At(1, 0);
-    }
-    let faulty = first_faulty(file);
-    if faulty < 8 {
-        return Failure::At(2, faulty as u16);
-    }
-    Failure::None
+    single(Check::Length, 0, bad_length(file))?;
+    each(Check::Part, 8, |p| faulty_part(file, p))
 }
 
 // The audited agent.

@@ -1,4 +1,6 @@
 // The records, each read whole, and the test of a span.
+#![tactic(auto, using(crate::proofs::LayoutLaws::part_bytes))]
+
 ghost use Rattle.std.specs.Prelude.{◌≡◌, ◌<◌, ◌≤◌};
 ghost use Rattle.definition.specs.11-Layout.{log_part, observer_part, condition_part, obligation_part, label_part, step_part, premise_part, count, records_in, part as part_of};
 ghost use Rattle.definition.specs.15-Records.{observer as observer_of, condition_formula, premise_step, span_fault};
@@ -29,8 +31,26 @@ fn record_in(file: &[u8], p: usize, k: usize) -> &[u8]
     record_of(bytes, p, k)
 }
 
-// A log row: its action, and where its observers begin and how many they are.
+// A log, by the bytes of its rows and of its observers.
 #[derive(Clone, Copy)]
+pub struct Log<'a> {
+    pub rows: &'a [u8],
+    pub observers: &'a [u8],
+}
+
+// The log of a file.
+pub fn log_of(file: &[u8]) -> Log<'_>
+    requires { Parted file.now }
+    ensures { (result.rows.now ≡ part_of file.now log_part) × (result.observers.now ≡ part_of file.now observer_part) }
+{
+    Log {
+        rows: part(file, LOG),
+        observers: part(file, OBSERVERS),
+    }
+}
+
+// A log row: its action, and where its observers begin and how many they are.
+#[derive(Clone, Copy, Debug, PartialEq, Eq)]
 pub struct LogRow {
     pub action: u16,
     pub from: u16,
@@ -69,7 +89,7 @@ pub fn condition_formula(file: &[u8], k: usize) -> u16
 }
 
 // An obligation: its mark, its action, the hour by which it is due, and the log row that did it, or 65,535.
-#[derive(Clone, Copy)]
+#[derive(Clone, Copy, Debug, PartialEq, Eq)]
 pub struct Obligation {
     pub mark: u16,
     pub action: u16,
@@ -91,7 +111,7 @@ pub fn obligation_at(file: &[u8], k: usize) -> Obligation
 }
 
 // A label: its mark, and its policy or action.
-#[derive(Clone, Copy)]
+#[derive(Clone, Copy, Debug, PartialEq, Eq)]
 pub struct Label {
     pub mark: u16,
     pub formula: u16,
@@ -109,7 +129,7 @@ pub fn label_at(file: &[u8], k: usize) -> Label
 }
 
 // A step: its rule, formula and argument, and where its premises begin and how many they are.
-#[derive(Clone, Copy)]
+#[derive(Clone, Copy, Debug, PartialEq, Eq)]
 pub struct Step {
     pub rule: u16,
     pub formula: u16,
@@ -146,15 +166,6 @@ pub fn bad_span(due: usize, from: usize, len: usize, last: bool, entries: usize)
     requires { (from ≤ 65535) × (len ≤ 65535) }
     ensures { result ≡ span_fault due from len last entries }
 {
-    if from != due {
-        return true;
-    }
     let end = from + len;
-    if entries < end {
-        return true;
-    }
-    if last {
-        return end < entries;
-    }
-    false
+    from != due || entries < end || (last && end < entries)
 }

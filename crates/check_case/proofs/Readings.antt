@@ -1,15 +1,16 @@
 -- One answer taken into the buffer is one step of the definition's reading, and a run of them is the reading of all. Assumes nothing.
-use Prim.Native.Nat.{ℕ, ◌+◌, ◌-◌, ◌≤◌, ◌<◌, min}
+use Prim.Native.Nat.{ℕ, ◌+◌, ◌-◌, ◌≤◌, ◌<◌}
 use mathlib.Core.Path.{◌≡◌, refl, sym, ap, subst, ◌∙◌}
-use mathlib.Core.Bool.{Bool, true, false}
+use mathlib.Core.Bool.{true, false}
 use mathlib.Core.List.{List, [], ◌∷◌, ◌++◌, map, append-nil, append_assoc}
 use native.Mathlib.Omega.{arith}
 use lib.ListN.{length, take, length-append}
 use lib.Seq.{sets, sets-eq, length-sets, length-take-le, take_all, take_at}
+use Rattle.std.proofs.lemmas.List.{take_min}
 use lib.IntN.{ℤ, pos, negsuc}
 use lib.Signed.{lt_z}
-use lib.Dec.{T, ltb}
-use borrow.Author.Tests.{ltb-true, ltb-false}
+use lib.Dec.{T}
+use borrow.Author.Tests.{ltb-true}
 use Rattle.definition.specs.03-Lists.{join_all}
 use Rattle.definition.specs.34-Program.{Answer, gives, error, so_far, whole, read_on, read_all, NoneEmpty}
 use Rattle.definition.proofs.ReadingLaws.{one_more, filled_more, filled_whole, given_on, more_given}
@@ -20,15 +21,8 @@ use Rattle.check_case.specs.declared.input.Reading.TheVariants.{More, Whole, Fai
 use Rattle.check_case.proofs.WrittenText.{sets_append, kept}
 
 -- What the answer counts, as far as the piece goes.
-take_min : (n : ℕ) (l : List ℕ) → take n l ≡ take (min n (length l)) l
-take_min n l = go (ltb n (length l)) refl
-  where
-    go : (t : Bool) → ltb n (length l) ≡ t → take n l ≡ take (min n (length l)) l
-    go true e = let same : n ≡ min n (length l) = omega (arith, ltb-true n (length l) e) in ap (λ (k : ℕ). take k l) same
-    go false e = take_all n l (ltb-false n (length l) e) ∙ sym (take_all (min n (length l)) l (omega (arith, ltb-false n (length l) e)))
-
 pub answer_counts : (z : ℤ) (piece : List ℕ) → lt_z z (pos 0) ≡ false → answer_meant z piece ≡ gives (take (clamp_len z (length piece)) piece)
-answer_counts (pos n) piece e = ap gives (take_min n piece)
+answer_counts (pos n) piece e = ap gives (sym (take_min n piece))
 answer_counts (negsuc n) piece e = absurd (subst T e tt)
 
 answer_fails : (z : ℤ) (piece : List ℕ) → lt_z z (pos 0) ≡ true → answer_meant z piece ≡ error

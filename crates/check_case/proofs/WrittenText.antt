@@ -1,11 +1,10 @@
 -- Texts written one after the other are one text: a run of stores goes on where the last one ended. Assumes nothing.
-use Prim.Native.Nat.{ℕ, suc, ◌+◌, ◌≤◌, ◌<◌}
+use Prim.Native.Nat.{ℕ, suc, ◌+◌, ◌≤◌}
 use mathlib.Core.Path.{◌≡◌, refl, sym, ap, ◌∙◌}
 use mathlib.Core.List.{List, [], ◌∷◌, ◌++◌}
 use native.Mathlib.Omega.{arith}
-use native.Mathlib.Numerals.{add-one}
-use lib.ListN.{length, take, get_or, set, length-append}
-use lib.Seq.{sets, length-sets, take-suc, length-take-le}
+use lib.ListN.{length, set, length-append}
+use lib.Seq.{sets, length-sets}
 use Rattle.check_case.specs.Written.{Written}
 
 pub sets_append : (l : List ℕ) (i : ℕ) (xs ys : List ℕ) → sets l i (xs ++ ys) ≡ sets (sets l i xs) (i + length xs) ys
@@ -26,15 +25,6 @@ and_then {l} {m} {n} {at} {k} {end} {s} {t} a b =
       is = b.is ∙ ap (λ (z : List ℕ). sets z k t) a.is ∙ ap (λ (j : ℕ). sets (sets l at s) j t) a.ends ∙ sym (sets_append l at s t);
       ends = simp length-append (omega (arith, a.ends, b.ends));
     }
-
--- One byte more of a word.
-pub byte_more :
-    (l word : List ℕ) (at i : ℕ) → i < length word →
-    set (sets l at (take i word)) (at + i) (get_or word i 0) ≡ sets l at (take (i + 1) word)
-byte_more l word at i h =
-    ap (λ (k : ℕ). set (sets l at (take i word)) (at + k) (get_or word i 0)) (sym (length-take-le i word (omega (arith, h))))
-    ∙ sym (sets_append l at (take i word) (get_or word i 0 ∷ []))
-    ∙ ap (sets l at) (sym (take-suc word i 0 h) ∙ ap (λ (k : ℕ). take k word) (sym (add-one i)))
 
 -- Writing keeps the buffer's length.
 pub kept : {l m : List ℕ} {at end : ℕ} {s : List ℕ} → Written l at s m end → length m ≡ length l

@@ -1,5 +1,5 @@
 // Reading standard input. What the system does no contract can say. So its last answer stays where the caller sees it, as a number and as bytes in a piece, and the contracts say what is made of it.
-ghost use Rattle.std.specs.Prelude.{◌+◌, ◌-◌, ◌^◌, ◌≤◌, ◌<◌, min, ◌≡◌, length, IfOk};
+ghost use Rattle.std.specs.Prelude.{◌+◌, ◌-◌, ◌^◌, ◌≤◌, ◌<◌, ◌≡◌, length, IfOk};
 ghost use Rattle.check_case.specs.Input.{got_of, clamp_len, answer_meant, answer_within, Taken, ReadFrom};
 ghost use Rattle.check_case.specs.Written.{IsPrefixLen};
 ghost use Rattle.definition.specs.34-Program.{most_read};
@@ -9,7 +9,8 @@ use std::io;
 use std::io::{Read, Stdin};
 
 // What came of reading: so many bytes at the start of the buffer and there may be more, so many and all is read, or a read that failed.
-#[derive(Clone, Copy)]
+// The definition has the same three cases: an `Option` or a `Result` would need a `bool` beside the count.
+#[derive(Clone, Copy, Debug, PartialEq, Eq)]
 pub enum Reading {
     More(usize),
     Whole(usize),
@@ -22,7 +23,7 @@ fn count(got: isize, piece: &[u8]) -> usize
     ensures value { result ≡ clamp_len got (length piece.now) }
 {
     if 0 < got {
-        least(got as usize, piece.len())
+        piece.len().min(got as usize)
     } else {
         0
     }
@@ -75,13 +76,6 @@ fn read_piece(
     take_answer(done, *got, piece, buffer)
 }
 
-// The lesser of two numbers.
-fn least(a: usize, b: usize) -> usize
-    ensures { result ≡ min a b }
-{
-    if a < b { a } else { b }
-}
-
 // Reads once, and no more than the buffer has room for.
 fn read_on(
     stdin: &mut Stdin,
@@ -94,7 +88,7 @@ fn read_on(
     requires done_in_bounds { done < length buffer.old }
     ensures { Taken done (answer_within (length buffer.old - done) got.new piece.new) buffer.old buffer.new result }
 {
-    let most = least(piece.len(), buffer.len() - done);
+    let most = piece.len().min(buffer.len() - done);
     read_piece(stdin, done, got, &mut piece[..most], buffer)
 }
 

@@ -20,13 +20,6 @@ use std::io::Stdin;
 // The most bytes that are read: one more than the largest file has, so that a longer input is refused for its length.
 const MOST_READ: usize = LARGEST_FILE + 1;
 
-// What there is to print: a text of so many bytes, or nothing.
-#[derive(Clone, Copy)]
-enum Told {
-    Text(usize),
-    Nothing,
-}
-
 // Puts the program's answer to a case at the start of the text, and answers how long it is. "The program lends a room of 1,088 entries"; a text for these has at most 11,999 bytes.
 fn answer(case: &[u8], text: &mut [u8]) -> usize
     requires case_len_bound { length case.now ≤ most_read }
@@ -39,17 +32,16 @@ fn answer(case: &[u8], text: &mut [u8]) -> usize
     report(case.len() as u16, verdict, &room, text)
 }
 
-// Tells the answer to a case that was read whole. What cannot be read whole is not judged: a part of a case is another case.
-fn tell(reading: Reading, case: &[u8], text: &mut [u8]) -> Told
+// Tells the answer to a case that was read whole, by the length of its text. What cannot be read whole is not judged: a part of a case is another case.
+fn tell(reading: Reading, case: &[u8], text: &mut [u8]) -> Option<usize>
     requires held { Held reading case.now }
     requires case_len_bound { length case.now ≤ most_read }
     requires in_bounds { 12000 ≤ length text.old }
     ensures { Tells (printed (reading_meant reading case.now)) text.old text.new result }
 {
     match reading {
-        Reading::Whole(count) => Told::Text(answer(&case[..count], text)),
-        Reading::More(_) => Told::Nothing,
-        Reading::Failed => Told::Nothing,
+        Reading::Whole(count) => Some(answer(&case[..count], text)),
+        Reading::More(_) | Reading::Failed => None,
     }
 }
 
@@ -60,7 +52,7 @@ fn judge_input(
     piece: &mut [u8],
     case: &mut [u8],
     text: &mut [u8],
-) -> Told
+) -> Option<usize>
     requires piece_nonzero { 0 < length piece.old }
     requires case_len { length case.old ≡ most_read }
     requires in_bounds { 12000 ≤ length text.old }
@@ -78,12 +70,12 @@ fn main(rt: HostRuntime) {
     let mut case = [0u8; MOST_READ];
     let mut text = [0u8; 12000];
     match judge_input(&mut stdin, &mut got, &mut piece, &mut case, &mut text) {
-        Told::Text(end) => {
+        Some(end) => {
             if rt.write_all(&text[..end]).is_err() {
                 let _ = eprintln!(rt; "check_case: cannot write standard output");
             }
         }
-        Told::Nothing => {
+        None => {
             let _ = eprintln!(rt; "check_case: cannot read standard input");
         }
     }

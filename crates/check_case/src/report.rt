@@ -6,30 +6,20 @@ ghost use Rattle.definition.specs.33-Text.{lines, verdict_line, entry_lines, rep
 
 use crate::text::{put_line, put_pair, put_word};
 use checker::Verdict;
+use words::Refusal;
 
 // The first entries, so many as there are, whatever the count.
 fn first(entries: &[u16], count: u16) -> &[u16]
     ensures { result.now ≡ take count entries.now }
 {
-    let n = count as usize;
-    if n < entries.len() {
-        &entries[..n]
-    } else {
-        entries
-    }
+    &entries[..entries.len().min(count as usize)]
 }
 
 // The entries after the first ones, whatever the count.
 fn after(entries: &[u16], count: u16) -> &[u16]
     ensures { result.now ≡ drop count entries.now }
 {
-    let n = count as usize;
-    let end = entries.len();
-    if n < end {
-        &entries[n..]
-    } else {
-        &entries[end..]
-    }
+    &entries[entries.len().min(count as usize)..]
 }
 
 // A line for each entry.
@@ -39,41 +29,41 @@ fn put_lines(word: &[u8], entries: &[u16], at: usize, out: &mut [u8]) -> usize
     ensures { Written out.old at (lines word.now entries.now) out.new result }
 {
     let mut end = at;
-    for i in 0..entries.len() {
-        end = put_line(word, entries[i], end, out);
+    for entry in entries {
+        end = put_line(word, *entry, end, out);
     }
     end
 }
 
 // The verdict's own line.
-fn put_verdict(verdict: Verdict, at: usize, out: &mut [u8]) -> usize
+fn put_verdict(verdict: Result<Verdict, Refusal>, at: usize, out: &mut [u8]) -> usize
     requires { at + 20 ≤ length out.old }
     ensures { Written out.old at (verdict_line (verdict_meant verdict)) out.new result }
 {
     match verdict {
-        Verdict::Passed(obligations, rows) => put_pair(b"passed ", obligations, rows, at, out),
-        Verdict::NoneOwed => put_word(b"none owed\n", at, out),
-        Verdict::Refused(number, place) => put_pair(b"refused ", number, place, at, out),
+        Ok(Verdict::Passed(obligations, rows)) => put_pair(b"passed ", obligations, rows, at, out),
+        Ok(Verdict::NoneOwed) => put_word(b"none owed\n", at, out),
+        Err(refusal) => put_pair(b"refused ", refusal.check.number(), refusal.place, at, out),
     }
 }
 
 // The lines of the room: obligations, then log rows.
-fn put_room(verdict: Verdict, room: &[u16], at: usize, out: &mut [u8]) -> usize
+fn put_room(verdict: Result<Verdict, Refusal>, room: &[u16], at: usize, out: &mut [u8]) -> usize
     requires { at + 11 * length room.now ≤ length out.old }
     ensures { Written out.old at (entry_lines (verdict_meant verdict) room.now) out.new result }
 {
     match verdict {
-        Verdict::Passed(obligations, rows) => {
+        Ok(Verdict::Passed(obligations, rows)) => {
             let end = put_lines(b"duty ", first(room, obligations), at, out);
             put_lines(b"row ", first(after(room, obligations), rows), end, out)
         }
-        Verdict::NoneOwed => at,
-        Verdict::Refused(_, _) => at,
+        Ok(Verdict::NoneOwed) => at,
+        Err(_) => at,
     }
 }
 
 // The whole text, from the start of the buffer: at most 11 bytes for the first line, 20 for the verdict, 11 for each entry.
-pub fn report(bytes: u16, verdict: Verdict, room: &[u16], out: &mut [u8]) -> usize
+pub fn report(bytes: u16, verdict: Result<Verdict, Refusal>, room: &[u16], out: &mut [u8]) -> usize
     requires { 31 + 11 * length room.now ≤ length out.old }
     ensures { Written out.old 0 (report_text bytes (verdict_meant verdict) room.now) out.new result }
 {

@@ -1,4 +1,5 @@
 // Writing words and numbers into a buffer, one after the other. Each function answers where its text ends.
+// The text is promised, so it is not written by a `Display`: no clause of a `fmt` says what it writes.
 ghost use Rattle.std.specs.Prelude.{◌+◌, ◌≤◌, ◌<◌, [], ◌∷◌, length};
 ghost use Rattle.check_case.specs.Written.{Written};
 ghost use Rattle.definition.specs.33-Text.{numeral, line, pair};
@@ -8,10 +9,9 @@ pub fn put_word(word: &[u8], at: usize, out: &mut [u8]) -> usize
     requires { at + length word.now ≤ length out.old }
     ensures { Written out.old at word.now out.new result }
 {
-    for i in 0..word.len() {
-        out[at + i] = word[i];
-    }
-    at + word.len()
+    let end = at + word.len();
+    out[at..end].copy_from_slice(word);
+    end
 }
 
 // A decimal digit.

@@ -18,9 +18,9 @@ use Rattle.case_parts.specs.ShapedSteps.{EarlierNumbered}
 use Rattle.steps.proofs.StepBranches.{no_fault}
 use Rattle.steps.specs.StepAnswers.{by_run, after_step, Stepped}
 use Rattle.steps.specs.WorkingTables.{state_of, Tables}
-use Rattle.words.specs.Meanings.{failure_meant}
-use Rattle.words.specs.declared.runs.Failure.{Failure}
-use Rattle.words.specs.declared.runs.Failure.TheVariants.{None, At}
+use Rattle.words.specs.Meanings.{run_meant}
+use Rattle.std.specs.Prelude.{Ok, Err}
+use Rattle.words.specs.declared.runs.Refusal.{Refusal}
 use Rattle.checker.specs.StepRuns.{after_run, RunGives}
 
 -- One step of a run, refused and accepted.
@@ -70,30 +70,25 @@ turn_start s n l c d e t =
 
 module _ (s : List ℕ) (start : State) (n : ℕ) (l : List ℕ) (c d : List Bool) where
   module _ (k : ℕ) (t : Turn s start n l c d k) where
-    pub turn_end : n ≤ k → RunGives s start None l c d
-    unfolding failure_meant checks_of_steps in_order after_run
+    pub turn_end : n ≤ k → RunGives s start (Ok tt) l c d
+    unfolding run_meant checks_of_steps in_order after_run
     turn_end le =
         let z : n - k ≡ 0 = omega arith in
         record { tables = t.tables; is = sym (rw z at t.run); state = sym (rw z at t.state) }
 
-    module _ (lt : k < n) (r : Failure) (l' : List ℕ) (c' d' : List Bool) (g : Stepped s k (state_of l c d) r l' c' d') where
-      pub turn_refused : (m p : ℕ) → r ≡ At m p → RunGives s start (At m p) l' c' d'
-      unfolding failure_meant
-      turn_refused m p told =
-          let h = run_refused (case_of s) n k (state_of l c d) lt m p (sym (ap failure_meant told) ∙ g.is) in
-          record {
-            tables = g.tables;
-            is = h.0 ∙ sym t.run;
-            state = g.state ∙ sym (t.state ∙ h.1);
-          }
+    module _ (lt : k < n) (l' : List ℕ) (c' d' : List Bool) where
+      pub turn_refused : (r : Refusal) → Stepped s k (state_of l c d) (Err r) l' c' d' → RunGives s start (Err r) l' c' d'
+      unfolding run_meant
+      turn_refused r g =
+          let h = run_refused (case_of s) n k (state_of l c d) lt _ r.place g.is in
+          record { tables = g.tables; is = h.0 ∙ sym t.run; state = g.state ∙ sym (t.state ∙ h.1) }
 
-      pub turn_next : {b : List ℕ} → Lent s b → r ≡ None → Turn s start n l' c' d' (k + 1)
-      unfolding after_step by_run failure_meant
-      turn_next lent told =
-          let passed : accepts tt ≡ in_order (step_checks (case_of s) k (state_of l c d)) = sym (ap failure_meant told) ∙ g.is in
-          let h = run_accepted (case_of s) n k (state_of l c d) lt passed in
-          let after : state_of l' c' d' ≡ next (case_of s) k (state_of l c d) = rw (← passed) at g.state in
-          let fine = (no_fault (case_of s) k (state_of l c d) passed).shaped in
+      pub turn_next : {b : List ℕ} → Lent s b → Stepped s k (state_of l c d) (Ok tt) l' c' d' → Turn s start n l' c' d' (k + 1)
+      unfolding after_step by_run run_meant
+      turn_next lent g =
+          let h = run_accepted (case_of s) n k (state_of l c d) lt g.is in
+          let after : state_of l' c' d' ≡ next (case_of s) k (state_of l c d) = rw (← g.is) at g.state in
+          let fine = (no_fault (case_of s) k (state_of l c d) g.is).shaped in
           record {
             all = t.all;
             passed = omega arith;

@@ -1,9 +1,12 @@
--- What the code's types stand for: each case as the definition's.
+-- What the code's verdict stands for: each case as the definition's.
+use Rattle.std.specs.Prelude.{Result, Ok, Err}
 use Rattle.definition.specs.31-Outcome as definition
 use Rattle.checker.specs.declared.verdict.Verdict.{Verdict}
-use Rattle.checker.specs.declared.verdict.Verdict.TheVariants.{Passed, NoneOwed, Refused}
+use Rattle.checker.specs.declared.verdict.Verdict.TheVariants.{Passed, NoneOwed}
+use Rattle.words.specs.declared.runs.Refusal.{Refusal}
+use Rattle.words.specs.Meanings.{check_number}
 
-unfoldable pub verdict_meant : Verdict → definition.Verdict
-verdict_meant (Passed d r) = definition.passed d r
-verdict_meant NoneOwed = definition.none_owed
-verdict_meant (Refused n p) = definition.refused n p
+unfoldable pub verdict_meant : Result Verdict Refusal → definition.Verdict
+verdict_meant (Ok (Passed d r)) = definition.passed d r
+verdict_meant (Ok NoneOwed) = definition.none_owed
+verdict_meant (Err r) = definition.refused (check_number r.check) r.place

@@ -1,5 +1,5 @@
 -- What a verdict and a room report, after the last check, the end, the steps, and all that follows the admission: each with what is found where its checks hold.
-use Rattle.std.specs.Prelude.{ℕ, ◌≡◌, List}
+use Rattle.std.specs.Prelude.{ℕ, ◌≡◌, List, Result}
 use Rattle.definition.specs.04-Checks.{Checked, accepts, ◌>>◌, in_order}
 use Rattle.definition.specs.17-Case.{Case}
 use Rattle.definition.specs.22-Steps.{State}
@@ -7,6 +7,7 @@ use Rattle.definition.specs.23-Duties.{duty_checks}
 use Rattle.definition.specs.31-Outcome.{Finding, justified, nothing_owed, discharged_list, cited_list, room_checks, end_checks, final_state, proof_checks, case_checks, found, report}
 use Rattle.checker.specs.Meanings.{verdict_meant}
 use Rattle.checker.specs.declared.verdict.Verdict.{Verdict}
+use Rattle.words.specs.declared.runs.Refusal.{Refusal}
 
 -- Check 23, the last one, and the two lists.
 unfoldable pub listing : Case → State → ℕ → Checked Finding
@@ -39,6 +40,6 @@ justifying c room = do
   accepts (found c)
 
 -- The verdict and the room report what the checks have found.
-pub record Reported (x : Checked Finding) (room : List ℕ) (r : Verdict) (after : List ℕ) : Type 0 where
+pub record Reported (x : Checked Finding) (room : List ℕ) (r : Result Verdict Refusal) (after : List ℕ) : Type 0 where
   pub verdict : verdict_meant r ≡ (report x room).verdict
   pub room_is : after ≡ (report x room).room

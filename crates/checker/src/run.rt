@@ -1,37 +1,20 @@
 // The steps of a case, in order.
-ghost use Rattle.case_file.specs.LentCase.{CaseLent};
-ghost use Rattle.steps.specs.WorkingTables.{state_of, Tables};
+ghost use Rattle.steps.specs.WorkingTables.{state_of};
 ghost use Rattle.checker.specs.StepRuns.{RunGives};
 
+use case_file::Case;
 use case_parts::{STEPS, count_of};
-use steps::{each_use_labels, take_step};
-use words::Failure;
+use steps::{StepTables, each_use_labels, take_step};
+use words::Refusal;
 
 // The steps in order, up to the first that is refused.
-pub fn run_steps(
-    file: &[u8],
-    book: &[u8],
-    views: &[u16; 1024],
-    left: &mut [u64; 2048],
-    cited: &mut [bool; 1024],
-    discharged: &mut [bool; 64],
-) -> Failure
-    requires case_lent { CaseLent file.now book.now views.now }
-    requires tables { Tables left.old cited.old discharged.old }
-    ensures { RunGives file.now (state_of left.old cited.old discharged.old) result left.new cited.new discharged.new }
+pub fn run_steps(case: &Case, tables: &mut StepTables) -> Result<(), Refusal>
+    ensures { RunGives case.now.file.now (state_of tables.old.left tables.old.cited tables.old.discharged) result tables.new.left tables.new.cited tables.new.discharged }
 {
-    let each_use = each_use_labels(file);
-    let n = count_of(file, STEPS);
-    let mut k: usize = 0;
-    while k < n {
-        let fault = take_step(file, book, views, each_use, k, left, cited, discharged);
-        match fault {
-            Failure::At(number, place) => {
-                return Failure::At(number, place);
-            }
-            Failure::None => {}
-        }
-        k += 1;
+    let each_use = each_use_labels(case.file);
+    let n = count_of(case.file, STEPS);
+    for k in 0..n {
+        take_step(case, each_use, k, tables)?;
     }
-    Failure::None
+    Ok(())
 }

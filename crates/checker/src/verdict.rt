@@ -1,9 +1,8 @@
-// The verdict.
+// The verdict on a case that no check refuses.
 
-// Passed, with how many obligations are discharged and how many rows cited; or nothing is owed; or refused by the first check that fails, at its place.
-#[derive(Clone, Copy)]
+// Passed, with how many obligations are discharged and how many rows cited; or nothing is owed.
+#[derive(Clone, Copy, Debug, PartialEq, Eq)]
 pub enum Verdict {
     Passed(u16, u16),
     NoneOwed,
-    Refused(u16, u16),
 }

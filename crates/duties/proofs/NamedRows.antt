@@ -4,7 +4,7 @@ use mathlib.Core.Bool.{Bool, true, false, ◌||◌, and-false, or-true, or-false
 use mathlib.Core.Path.{◌≡◌, refl, sym, ap, ◌∙◌}
 use mathlib.Core.Option.{some}
 use mathlib.Core.List.{List}
-use lib.ListN.{length, length-set, length-replicate, set, replicate}
+use lib.ListN.{length, length-set, length-replicate, get_or, set, replicate}
 use lib.Dec.{eqb}
 use borrow.Author.Tests.{eq-eqb, ne_eqb, eqb-true, eqb-false}
 use Rattle.definition.proofs.RangeLaws.{any_last}
@@ -28,7 +28,7 @@ module _ {c : Case} {o : ℕ} {t : List Bool} (h : NamedBefore c o t) where
   flags_more : {u : List Bool} → length u ≡ length t → ((k : ℕ) → marks u k ≡ marks t k || uses_up c k o) → NamedBefore c (o + 1) u
   flags_more e f = record { long = e ∙ h.long; flag = λ k. f k ∙ ap (λ a. a || uses_up c k o) (h.flag k) ∙ sym (any_last (uses_up c k) o) }
 
-  -- It uses up no row; its row is named already; its row is marked.
+  -- It uses up no row; its row is marked.
   pub uses_none : ((k : ℕ) → uses_up c k o ≡ false) → NamedBefore c (o + 1) t
   uses_none up = flags_more refl (λ k. rw (up k) (sym (or-false (marks t k))))
 
@@ -40,13 +40,6 @@ module _ {c : Case} {o : ℕ} {t : List Bool} (h : NamedBefore c o t) where
     pub again_is : marks t r ≡ names_again c o
     unfolding names_again used_up_before
     again_is = rw (eq-eqb _ each_use mark, names) (h.flag r)
-
-    pub row_there : marks t r ≡ true → NamedBefore c (o + 1) t
-    row_there e = flags_more refl (λ k. rw (own_row k) (go k (eqb r k) refl))
-      where
-        go : (k : ℕ) (b : Bool) → eqb r k ≡ b → marks t k ≡ marks t k || b
-        go k true q = let is : marks t k ≡ true = rw (eqb-true r k q) at e in is ∙ sym (or-true (marks t k))
-        go k false q = sym (or-false (marks t k))
 
     pub row_marked : r < length t → NamedBefore c (o + 1) (set t r true)
     unfolding update
@@ -75,8 +68,7 @@ module _ (s : List ℕ) (o : ℕ) {t : List Bool} (h : NamedBefore (case_of s) o
     unfolding case_of
     is_each = sym mark ∙ each
 
-    pub named_already : {b : Bool} → b ≡ marks t n → b ≡ true → (true ≡ names_again (case_of s) o) × NamedBefore (case_of s) (o + 1) t
-    named_already f e = (sym (sym f ∙ e) ∙ again_is h n is_each names, row_there h n is_each names (sym f ∙ e))
-
-    pub named_now : {b : Bool} → b ≡ marks t n → b ≡ false → n < length t → (false ≡ names_again (case_of s) o) × NamedBefore (case_of s) (o + 1) (set t n true)
-    named_now f e lt = (sym (sym f ∙ e) ∙ again_is h n is_each names, row_marked h n is_each names lt)
+    -- its own row is marked, and the mark that was there tells
+    pub row_told : {b m : Bool} → b ≡ get_or t n false → m ≡ true → n < length t → (b ≡ names_again (case_of s) o) × NamedBefore (case_of s) (o + 1) (set t n m)
+    unfolding marks
+    row_told was set lt = rw set (was ∙ again_is h n is_each names, row_marked h n is_each names lt)

@@ -1,79 +1,48 @@
 // Obligations that have expired, and whether they were done: check 31; and both checks in order.
 ghost use Rattle.std.specs.Prelude.{false, ◌≡◌, ◌<◌};
-ghost use Rattle.definition.specs.02-Ranges.{lowest};
 ghost use Rattle.definition.specs.04-Checks.{in_order};
 ghost use Rattle.definition.specs.11-Layout.{formula_part, obligation_part, count};
 ghost use Rattle.definition.specs.14-Book.{tree_in};
 ghost use Rattle.definition.specs.15-Records.{log_of, rows_in, formulas as formulas_of, bad_row_named};
 ghost use Rattle.definition.specs.17-Case.{row_named, case_of};
 ghost use Rattle.definition.specs.23-Duties.{done_by, undone as undone_of, duty_checks};
-ghost use Rattle.words.specs.Meanings.{failure_meant};
-ghost use Rattle.case_file.specs.LentCase.{CaseLent};
+ghost use Rattle.words.specs.Meanings.{run_meant};
 
-use crate::named::first_named_again;
-use case_file::{View, view_at};
+use crate::named::check_named_again;
+use case_file::{Case, View, view_at};
 use case_parts::{OBLIGATIONS, count_of, hour_of, obligation_at};
 use formula_rows::Term;
-use words::Failure;
+use words::{Check, Refusal, each};
 
 // Does the row named, if one is, carry the action, as the agent sees it? An unseen row does not, and neither does a struck one.
-fn done_by(file: &[u8], book: &[u8], views: &[u16; 1024], row: u16, action: u16) -> bool
-    requires case_lent { CaseLent file.now book.now views.now }
-    requires row_value { (bad_row_named (rows_in (log_of file.now)) row ≡ false) × (action < count file.now formula_part) }
-    ensures { result ≡ done_by (case_of file.now) (row_named row) (tree_in (formulas_of file.now) action) }
+fn done_by(case: &Case, row: u16, action: u16) -> bool
+    requires row_value { (bad_row_named (rows_in (log_of case.now.file.now)) row ≡ false) × (action < count case.now.file.now formula_part) }
+    ensures { result ≡ done_by (case_of case.now.file.now) (row_named row) (tree_in (formulas_of case.now.file.now) action) }
 {
-    if row == Term::ABSENT {
-        return false;
-    }
-    let view = view_at(views, row as usize);
-    match view {
-        View::Hidden => false,
-        View::Struck => false,
-        View::Shows(shown) => shown == action,
-    }
+    row != Term::ABSENT
+        && match view_at(case.views, row as usize) {
+            View::Shows(shown) => shown == action,
+            _ => false,
+        }
 }
 
 // Check 31 of obligation `o`: is it due before the audit hour, and not done?
-fn undone(file: &[u8], book: &[u8], views: &[u16; 1024], o: usize) -> bool
-    requires { CaseLent file.now book.now views.now × (o < count file.now obligation_part) }
-    ensures { result ≡ undone_of (case_of file.now) o }
+fn undone(case: &Case, o: usize) -> bool
+    requires { o < count case.now.file.now obligation_part }
+    ensures { result ≡ undone_of (case_of case.now.file.now) o }
 {
-    let duty = obligation_at(file, o);
-    if duty.due < hour_of(file) {
-        return !done_by(file, book, views, duty.row, duty.action);
-    }
-    false
-}
-
-// The lowest obligation that is expired and not done, or how many there are.
-fn first_undone(file: &[u8], book: &[u8], views: &[u16; 1024]) -> usize
-    requires { CaseLent file.now book.now views.now }
-    ensures { result ≡ lowest (undone_of (case_of file.now)) (count file.now obligation_part) 0 }
-{
-    let n = count_of(file, OBLIGATIONS);
-    let mut o: usize = 0;
-    while o < n {
-        if undone(file, book, views, o) {
-            return o;
-        }
-        o += 1;
-    }
-    n
+    let duty = obligation_at(case.file, o);
+    duty.due < hour_of(case.file) && !done_by(case, duty.row, duty.action)
 }
 
 // Checks 31 and 32 of an admitted case.
-pub fn check_duties(file: &[u8], book: &[u8], views: &[u16; 1024]) -> Failure
-    requires { CaseLent file.now book.now views.now }
-    ensures { failure_meant result ≡ in_order (duty_checks (case_of file.now)) }
+pub fn check_duties(case: &Case) -> Result<(), Refusal>
+    ensures { run_meant result ≡ in_order (duty_checks (case_of case.now.file.now)) }
 {
-    let n = count_of(file, OBLIGATIONS);
-    let expired = first_undone(file, book, views);
-    if expired < n {
-        return Failure::At(31, expired as u16);
-    }
-    let again = first_named_again(file, book);
-    if again < n {
-        return Failure::At(32, again as u16);
-    }
-    Failure::None
+    each(
+        Check::Undone,
+        count_of(case.file, OBLIGATIONS),
+        |o| undone(case, o),
+    )?;
+    check_named_again(case)
 }

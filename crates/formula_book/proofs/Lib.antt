@@ -3,7 +3,6 @@ pub mod RowTreeLaws
 pub mod WalkedRows
 pub mod DataAnswerLaws
 pub mod SizeLaws
-pub mod BookBranches
 pub mod RowComparison
 pub mod Laws
 pub mod Instances

@@ -14,8 +14,7 @@ use lib.Seq.{get_or-set_same, get_or-set_other}
 use Rattle.definition.proofs.Tests.{not_both, never_true}
 use Rattle.definition.proofs.RangeLaws.{any_some, any_none}
 use Rattle.definition.specs.14-Book.{Row, row_at, same_row, repeats_lower}
-use Rattle.formula_book.specs.RowTrees.{bucket_of, key_of, branch, Leads, there, onward, Found, Linked, FreeSlot, Spotted}
-use Rattle.formula_book.specs.declared.repeats.Spot.{Spot}
+use Rattle.formula_book.specs.RowTrees.{bucket_of, key_of, branch, Leads, there, onward, Found, Linked, FreeSlot}
 use Rattle.formula_rows.proofs.RowEquality.{same_equal}
 
 module _ (s : List ℕ) (k : ℕ) where
@@ -31,10 +30,6 @@ module _ (s : List ℕ) (k : ℕ) where
 -- What a test of two rows that were read says of the rows of the book.
 pub met : (s : List ℕ) (j k : ℕ) (b : Bool) (q r : Row) → b ≡ same_row q r → q ≡ row_at s j → r ≡ row_at s k → b ≡ same_row (row_at s j) (row_at s k)
 met s j k b q r is first second = cc
-
--- What the walk says, where its answer is known.
-pub told : (s links : List ℕ) (k : ℕ) (r m : Spot) → Spotted s links k r → r ≡ m → Spotted s links k m
-told s links k r m h e = rw e at h
 
 -- Behind a free slot nothing is found.
 pub found_none : {links : List ℕ} {j slot rest : ℕ} → get_or links slot 0 ≡ 0 → Found links j slot rest → ⊥

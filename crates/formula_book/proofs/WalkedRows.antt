@@ -1,12 +1,12 @@
 -- Rows that may be walked: a policy below the row that check 3 looks at, and a row of which callers ask. Its kind tells which it is. Assumes nothing.
 use Prim.Native.Nat.{ℕ, ◌+◌, ◌*◌, ◌≤◌, ◌<◌}
-use mathlib.Core.Path.{◌≡◌, sym, ap, ◌∙◌}
-use mathlib.Core.Bool.{Bool, true}
+use mathlib.Core.Path.{◌≡◌, refl, sym, ap, ◌∙◌}
+use mathlib.Core.Bool.{Bool, true, false, not}
 use mathlib.Core.List.{List}
 use lib.ListN.{length}
 use native.Mathlib.Omega.{arith}
 use lib.Dec.{ltb, leb}
-use borrow.Author.Tests.{ltb-true, lt-ltb, le-leb}
+use borrow.Author.Tests.{ltb-true, ltb-false, lt-ltb, le-leb, lt-leb}
 use Rattle.definition.proofs.Tests.{and_true}
 use Rattle.definition.proofs.Trees.{Shape, row_shape}
 use Rattle.definition.specs.13-Formulas.{Formula, is_policy, is_action}
@@ -18,6 +18,14 @@ use Rattle.formula_rows.specs.Meanings.{row_meant}
 use Rattle.formula_rows.specs.declared.rows.Row as rows
 use Rattle.formula_walks.specs.WalkRows.{WalkRow}
 
+-- a number that is not below is at least
+not_below : (a b : ℕ) → not (ltb a b) ≡ leb b a
+not_below a b = go (ltb a b) refl
+  where
+    go : (t : Bool) → ltb a b ≡ t → not t ≡ leb b a
+    go true e = sym (lt-leb b a (ltb-true a b e))
+    go false e = sym (le-leb b a (ltb-false a b e))
+
 module _ (s : List ℕ) (k : ℕ) (g : GoodBelow s k) where
   shape_below : (n : ℕ) → n < k → Shape (book s) n (row_at s n)
   shape_below n lt = row_shape s n (g.good n lt) (omega (arith, g.inside))
@@ -27,10 +35,10 @@ module _ (s : List ℕ) (k : ℕ) (g : GoodBelow s k) where
   policy_below_lem n r lt e =
       rw (lt-ltb n k lt) (ap (λ (q : Row). ltb q.kind 8) e ∙ sym (shape_policy (shape_below n lt)))
 
-  pub action_below_lem : (n : ℕ) (r : rows.Row) → n < k → row_meant r ≡ row_at s n → leb 8 r.kind ≡ action_below (book s) k n
+  pub action_below_lem : (n : ℕ) (r : rows.Row) → n < k → row_meant r ≡ row_at s n → not (ltb r.kind 8) ≡ action_below (book s) k n
   unfolding action_below row_meant
   action_below_lem n r lt e =
-      rw (lt-ltb n k lt) (ap (λ (q : Row). leb 8 q.kind) e ∙ sym (shape_action (shape_below n lt)))
+      rw (lt-ltb n k lt) (not_below r.kind 8 ∙ ap (λ (q : Row). leb 8 q.kind) e ∙ sym (shape_action (shape_below n lt)))
 
   -- a policy below row k may be walked
   pub walk_below : (n : ℕ) → policy_below (book s) k n ≡ true → WalkRow is_policy s n 0

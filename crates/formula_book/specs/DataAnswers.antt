@@ -2,8 +2,7 @@
 use Rattle.std.specs.Prelude.{ℕ, cond, List}
 use Rattle.definition.specs.13-Formulas.{data_variable, has}
 use Rattle.definition.specs.14-Book.{tree_in, book, stray_row}
-use Rattle.formula_book.specs.declared.answers.Data.{Data}
-use Rattle.formula_book.specs.declared.answers.Data.TheVariants.{Listed, Stray}
+use Rattle.definition.specs.04-Checks.{Checked, accepts, refuses}
 
 -- A row, or an answer.
 pub data StrayOr (A : Type 0) : Type 0 where
@@ -14,7 +13,7 @@ pub data StrayOr (A : Type 0) : Type 0 where
 unfoldable pub stray_or : {A : Type 0} → List ℕ → (k : ℕ) → A → StrayOr A
 stray_or s k answer = cond (has data_variable 0 (tree_in (book s) k)) (stray (stray_row s k)) (clear answer)
 
--- The code's answer about data: how many there are, or the row.
-unfoldable pub data_meant : Data → StrayOr ℕ
-data_meant (Listed n) = clear n
-data_meant (Stray row) = stray row
+-- The same as a run: check 27 fails, with the row as its place, or does not.
+unfoldable pub by_stray : {A : Type 0} → StrayOr A → Checked A
+by_stray (stray row) = refuses 27 row
+by_stray (clear answer) = accepts answer

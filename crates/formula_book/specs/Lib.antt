@@ -1,4 +1,5 @@
 pub mod RowTrees
+pub mod Children
 pub mod Sizes
 pub mod DataAnswers
 pub mod GoodRows

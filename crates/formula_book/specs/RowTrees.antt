@@ -1,8 +1,6 @@
 -- Trees of rows: what the search for repeated rows keeps in its table.
-use Rattle.std.specs.Prelude.{ℕ, ◌+◌, ◌*◌, ◌/◌, ◌%◌, ◌<◌, ◌≤◌, ◌≡◌, true, false, List, length, get_or}
+use Rattle.std.specs.Prelude.{ℕ, ◌+◌, ◌*◌, ◌/◌, ◌%◌, ◌<◌, ◌≤◌, ◌≡◌, false, List, length, get_or}
 use Rattle.definition.specs.14-Book.{Row, row_at, repeats_lower}
-use Rattle.formula_book.specs.declared.repeats.Spot.{Spot}
-use Rattle.formula_book.specs.declared.repeats.Spot.TheVariants.{Repeated, Free}
 
 -- The bucket of a row.
 unfoldable pub bucket_of : Row → ℕ
@@ -38,13 +36,9 @@ pub record Linked (s links : List ℕ) (k : ℕ) : Type 0 where
   pub rises : (i : ℕ) → 0 < get_or links i 0 → i < 1022 + 2 * get_or links i 0
   pub stands : (j : ℕ) → j < k → Found links j (bucket_of (row_at s j)) (key_of (row_at s j))
 
--- What the walk of row k comes to: a lower row that it repeats; or it repeats none, and the slot that is its own is free.
+-- What the walk of row k comes to where it repeats no lower row: the slot that is its own is free.
 pub record FreeSlot (s links : List ℕ) (k slot : ℕ) : Type 0 where
   pub new : repeats_lower s k ≡ false
   pub free : get_or links slot 0 ≡ 0
   pub below : slot < 1024 + 2 * k
   pub way : Leads links slot (bucket_of (row_at s k)) (key_of (row_at s k))
-
-abbrev pub Spotted : List ℕ → List ℕ → ℕ → Spot → Type 0
-Spotted s links k Repeated = repeats_lower s k ≡ true
-Spotted s links k (Free slot) = FreeSlot s links k slot

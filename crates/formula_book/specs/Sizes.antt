@@ -1,5 +1,5 @@
 -- Check 3 row by row, with the column of sizes: what it holds is said in the definition.
-use Rattle.std.specs.Prelude.{ℕ, ◌≤◌, ◌<◌, false, cond, ◌≡◌, List}
+use Rattle.std.specs.Prelude.{ℕ, ◌≤◌, ◌<◌, false, cond, ◌≡◌, List, Option, None, Some}
 use Rattle.definition.specs.13-Formulas.{nodes}
 use Rattle.definition.specs.14-Book.{book_rows, book, tree_in, bad_formula}
 use Rattle.formula_rows.specs.Nodes.{Node, leaf, said, pair, body, duty, no_node}
@@ -20,6 +20,6 @@ ChildrenHeld s sizes (body x) = SizeHeld s sizes x
 ChildrenHeld s sizes (duty x y) = SizeHeld s sizes x × SizeHeld s sizes y
 ChildrenHeld s sizes no_node = Unit {0}
 
--- The nodes of row k's tree, or 0 where the row is bad.
-unfoldable pub size_at : List ℕ → ℕ → ℕ
-size_at s k = cond (bad_formula s (book s) k) 0 (nodes (tree_in (book s) k))
+-- The nodes of row k's tree, unless the row is bad.
+unfoldable pub size_at : List ℕ → ℕ → Option ℕ
+size_at s k = cond (bad_formula s (book s) k) None (Some (nodes (tree_in (book s) k)))

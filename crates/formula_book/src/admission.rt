@@ -1,26 +1,18 @@
 // Admission of a book: checks 3 and 4 over any bytes, and the column of sizes.
-ghost use Rattle.std.specs.Prelude.{◌≡◌, ◌+◌, ◌≤◌, ◌<◌, length};
+ghost use Rattle.std.specs.Prelude.{◌≡◌, false, ◌≤◌, ◌<◌, length, IfSome};
 ghost use Rattle.definition.specs.02-Ranges.{lowest};
-ghost use Rattle.definition.specs.13-Formulas.{nodes};
-ghost use Rattle.definition.specs.14-Book.{book_rows, tree_in, book as trees, bad_formula, book_admission, size_column};
-ghost use Rattle.formula_book.specs.Sizes.{SizeHeld, SizesHeld, SizesTold, ChildrenHeld, size_at};
+ghost use Rattle.definition.specs.04-Checks.{try, each};
+ghost use Rattle.definition.specs.14-Book.{book_rows, book as trees, bad_formula, is_misshapen, book_admission, size_column};
+ghost use Rattle.formula_book.specs.Sizes.{SizesHeld, SizesTold, ChildrenHeld, size_at};
 ghost use Rattle.formula_rows.specs.Meanings.{node_meant};
 ghost use Rattle.formula_rows.specs.Nodes.{nodes_of};
-ghost use Rattle.words.specs.Meanings.{failure_meant};
+ghost use Rattle.words.specs.Meanings.{run_meant};
 
 use crate::answers::size_of;
 use crate::fields::fields_fit;
-use crate::repeats::first_repeat;
-use formula_rows::{Node, node_of, row_at};
-use words::Failure;
-
-// The nodes of two formulas together.
-fn two_sizes(book: &[u8], sizes: &[u8], x: u16, y: u16) -> usize
-    requires { SizeHeld book.now sizes.now x × SizeHeld book.now sizes.now y }
-    ensures { (result ≡ nodes (tree_in (trees book.now) x) + nodes (tree_in (trees book.now) y)) × (result ≤ 128) }
-{
-    size_of(book, sizes, x as usize) + size_of(book, sizes, y as usize)
-}
+use crate::repeats::check_repeats;
+use formula_rows::{Node, row_at};
+use words::{Check, Refusal, single};
 
 // The nodes of a row by its node, from the sizes of its children.
 fn node_size(book: &[u8], sizes: &[u8], node: Node) -> usize
@@ -28,76 +20,66 @@ fn node_size(book: &[u8], sizes: &[u8], node: Node) -> usize
     ensures { result ≡ nodes_of (trees book.now) (node_meant node) }
 {
     match node {
-        Node::Leaf(_, _, _) => 1,
-        Node::Said(_, y, _) => size_of(book, sizes, y as usize) + 1,
-        Node::Pair(x, y) => two_sizes(book, sizes, x, y) + 1,
-        Node::Body(x) => size_of(book, sizes, x as usize) + 1,
-        Node::Duty(x, y) => two_sizes(book, sizes, x, y) + 1,
-        Node::None => 1,
+        Node::Leaf(..) | Node::None => 1,
+        Node::Said(_, x, _) | Node::Body(x) => size_of(book, sizes, x as usize) + 1,
+        Node::Pair(x, y) | Node::Duty(x, y) => {
+            size_of(book, sizes, x as usize) + size_of(book, sizes, y as usize) + 1
+        }
     }
 }
 
-// The nodes of row `k`, or 0 where it is bad. The column has the sizes of the rows below it.
-fn size_at(book: &[u8], sizes: &[u8], k: usize) -> usize
+// The nodes of row `k`, unless it is bad. The column has the sizes of the rows below it.
+fn size_at(book: &[u8], sizes: &[u8], k: usize) -> Option<usize>
     requires sizes_held { SizesHeld book.now sizes.now k }
     requires k_bound { (k < book_rows book.now) × (k < 1024) }
-    ensures { (result ≡ size_at book.now k) × (result ≤ 64) }
+    ensures { (result ≡ size_at book.now k) × IfSome result (λ size. size ≤ 64) }
 {
     let row = row_at(book, k);
     if !fields_fit(book, k, row) {
-        return 0;
+        return None;
     }
-    let size = node_size(book, sizes, node_of(row));
-    if 64 < size {
-        return 0;
-    }
-    size
+    let size = node_size(book, sizes, Node::from(row));
+    (size <= 64).then_some(size)
 }
 
-// The lowest bad row, or the number of rows, `n`. The sizes of the rows before it come into the column.
-fn first_bad(book: &[u8], n: usize, sizes: &mut [u8]) -> usize
-    requires n_value { (n ≡ book_rows book.now) × (n ≤ 1024) }
-    requires sizes_len { length sizes.old ≡ 1024 }
-    ensures { (result ≡ lowest (bad_formula book.now (trees book.now)) (book_rows book.now) 0) × SizesTold book.now sizes.old sizes.new result }
+// Check 3. The sizes of the rows before the lowest bad one come into the column, of all rows where there is none; its other bytes stay as they were.
+fn check_rows(book: &[u8], sizes: &mut [u8]) -> Result<(), Refusal>
+    requires { (book_rows book.now ≤ 1024) × (length sizes.old ≡ 1024) }
+    ensures { (run_meant result ≡ try (each 3 (book_rows book.now) (bad_formula book.now (trees book.now)))) × SizesTold book.now sizes.old sizes.new (lowest (bad_formula book.now (trees book.now)) (book_rows book.now) 0) }
 {
-    let mut k: usize = 0;
-    while k < n {
-        let size = size_at(book, sizes, k);
-        if size == 0 {
-            return k;
-        }
+    // The column changes from row to row, so this is no `each`.
+    for k in 0..book.len() / 8 {
+        let Some(size) = size_at(book, sizes, k) else {
+            return Err(Refusal {
+                check: Check::Formula,
+                place: k as u16,
+            });
+        };
         sizes[k] = size as u8;
-        k += 1;
     }
-    n
+    Ok(())
+}
+
+// Are the bytes no whole number of rows, or too many?
+fn is_misshapen(book: &[u8]) -> bool
+    ensures { result ≡ is_misshapen book.now }
+{
+    book.len() % 8 != 0 || 1024 < book.len() / 8
 }
 
 // Checks 3 and 4 of any bytes as a book, with the column of sizes. Bytes that are no whole rows, or too many, are what check 2 says of the formula part.
-pub fn admit_into(book: &[u8], sizes: &mut [u8]) -> Failure
+pub fn admit_into(book: &[u8], sizes: &mut [u8]) -> Result<(), Refusal>
     requires { length sizes.old ≡ 1024 }
-    ensures { (failure_meant result ≡ book_admission book.now) × (sizes.new ≡ size_column book.now sizes.old) }
+    ensures { (run_meant result ≡ book_admission book.now) × (sizes.new ≡ size_column book.now sizes.old) }
 {
-    let count = book.len() / 8;
-    if book.len() % 8 != 0 {
-        return Failure::At(2, 0);
-    }
-    if 1024 < count {
-        return Failure::At(2, 0);
-    }
-    let bad = first_bad(book, count, sizes);
-    if bad < count {
-        return Failure::At(3, bad as u16);
-    }
-    let again = first_repeat(book, count);
-    if again < count {
-        return Failure::At(4, again as u16);
-    }
-    Failure::None
+    single(Check::Part, 0, is_misshapen(book))?;
+    check_rows(book, sizes)?;
+    check_repeats(book)
 }
 
 // The same for a caller that asks no sizes.
-pub fn admit(book: &[u8]) -> Failure
-    ensures { failure_meant result ≡ book_admission book.now }
+pub fn admit(book: &[u8]) -> Result<(), Refusal>
+    ensures { run_meant result ≡ book_admission book.now }
 {
     let mut sizes = [0u8; 1024];
     admit_into(book, &mut sizes)

@@ -5,12 +5,14 @@ ghost use Rattle.definition.specs.14-Book.{tree_in, book as trees};
 ghost use Rattle.formula_rows.specs.Meanings.{sort_meant, sought_meant};
 ghost use Rattle.formula_walks.specs.DataWalk.{DataListed};
 ghost use Rattle.formula_walks.specs.WalkRows.{Present};
-ghost use Rattle.formula_book.specs.DataAnswers.{data_meant, stray_or};
+ghost use Rattle.formula_book.specs.DataAnswers.{by_stray, stray_or};
 ghost use Rattle.formula_book.specs.GoodRows.{GoodRow};
 ghost use Rattle.formula_book.specs.Sizes.{SizeHeld};
+ghost use Rattle.words.specs.Meanings.{run_meant};
 
 use formula_rows::{Sort, Sought, row_at};
 use formula_walks::{action_has, policy_data, policy_has, policy_instance};
+use words::{Check, Refusal};
 
 // Does what is looked for stand in formula `row`?
 pub fn formula_has(book: &[u8], w: Sought, row: usize) -> bool
@@ -18,11 +20,11 @@ pub fn formula_has(book: &[u8], w: Sought, row: usize) -> bool
     requires present { Present (sought_meant w) }
     ensures { result ≡ has (sought_meant w) 0 (tree_in (trees book.now) row) }
 {
-    let kind = row_at(book, row).kind;
-    if kind < 8 {
-        return policy_has(book, w, 0, row);
+    if row_at(book, row).is_policy() {
+        policy_has(book, w, 0, row)
+    } else {
+        action_has(book, w, 0, row)
     }
-    action_has(book, w, 0, row)
 }
 
 // Has formula `row` no free variable?
@@ -38,30 +40,23 @@ pub fn is_ground(book: &[u8], row: usize) -> bool
     requires { GoodRow book.now row }
     ensures { result ≡ is_ground (tree_in (trees book.now) row) }
 {
-    if is_closed(book, row) {
-        return !formula_has(book, Sought::Parameter, row);
-    }
-    false
+    is_closed(book, row) && !formula_has(book, Sought::Parameter, row)
 }
 
-// What is told of the data of a formula: how many there are, or, where a data variable stands in it, the lowest row that itself holds one.
-#[derive(Clone, Copy)]
-pub enum Data {
-    Listed(usize),
-    Stray(u16),
-}
-
-// The data objects and data parameters of policy `row`, ascending without repeats, in the first entries of `set`, data variable or not. The entries behind them stay as they were. The walk begins with 1,024, the number of no row.
-pub fn data_of(book: &[u8], row: usize, set: &mut [u16; 192]) -> Data
+// The data objects and data parameters of policy `row`, ascending without repeats, in the first entries of `set`, data variable or not. The entries behind them stay as they were.
+pub fn data_of(book: &[u8], row: usize, set: &mut [u16; 192]) -> Result<usize, Refusal>
     requires good_row { GoodRow book.now row × (is_policy (tree_in (trees book.now) row) ≡ true) }
     requires set_len { length set.old ≡ 192 }
-    ensures { (data_meant result ≡ stray_or book.now row (length (data_of (tree_in (trees book.now) row)))) × DataListed (tree_in (trees book.now) row) set.old set.new }
+    ensures { (run_meant result ≡ by_stray (stray_or book.now row (length (data_of (tree_in (trees book.now) row))))) × DataListed (tree_in (trees book.now) row) set.old set.new }
 {
-    let all = policy_data(book, row, set, 0, 1024);
-    if all.low < 1024 {
-        return Data::Stray(all.low as u16);
+    let all = policy_data(book, row, set, 0, None);
+    match all.low {
+        Some(stray) => Err(Refusal {
+            check: Check::DataVariable,
+            place: stray as u16,
+        }),
+        None => Ok(all.many),
     }
-    Data::Listed(all.many)
 }
 
 // The nodes of formula `row`, as the column has them. The book is there for the contract alone.
@@ -78,9 +73,5 @@ pub fn is_body_with(book: &[u8], sort: Sort, term: u16, body: usize, row: usize)
     requires good_row_2 { GoodRow book.now row }
     ensures { result ≡ same (tree_in (trees book.now) row) (put (sort_meant sort) term 0 (tree_in (trees book.now) body)) }
 {
-    let kind = row_at(book, row).kind;
-    if 8 <= kind {
-        return false;
-    }
-    policy_instance(book, sort, term, 0, body, row)
+    row_at(book, row).is_policy() && policy_instance(book, sort, term, 0, body, row)
 }

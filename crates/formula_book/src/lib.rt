@@ -7,4 +7,4 @@ mod fields;
 mod repeats;
 
 pub use admission::{admit, admit_into};
-pub use answers::{Data, data_of, formula_has, is_body_with, is_closed, is_ground, size_of};
+pub use answers::{data_of, formula_has, is_body_with, is_closed, is_ground, size_of};

@@ -1,18 +1,13 @@
 // Rows that repeat a lower one. The rows below the one at hand stand in binary trees, one for each sum. At each row of a tree the next bit of the key tells which branch to follow: a key has 64 bits, so a walk passes at most 65 rows, whatever the book.
-ghost use Rattle.std.specs.Prelude.{◌≡◌, ◌+◌, ◌*◌, ◌<◌, ◌≤◌, length};
-ghost use Rattle.definition.specs.02-Ranges.{lowest};
-ghost use Rattle.definition.specs.14-Book.{repeats_lower};
+ghost use Rattle.std.specs.Prelude.{true, ◌≡◌, ◌+◌, ◌*◌, ◌<◌, ◌≤◌, length, MatchOption};
+ghost use Rattle.definition.specs.04-Checks.{try, each};
+ghost use Rattle.definition.specs.14-Book.{book_rows, repeats_lower};
 ghost use Rattle.formula_rows.specs.Meanings.{row_meant};
-ghost use Rattle.formula_book.specs.RowTrees.{Bucket, key_of, Linked, Spotted};
+ghost use Rattle.formula_book.specs.RowTrees.{Bucket, key_of, Linked, FreeSlot};
+ghost use Rattle.words.specs.Meanings.{run_meant};
 
-use formula_rows::Row;
-
-// What a row's walk through its tree comes to: a row that it repeats, or the slot that is free for it.
-#[derive(Clone, Copy)]
-enum Spot {
-    Repeated,
-    Free(usize),
-}
+use formula_rows::{Row, row_at};
+use words::{Check, Refusal};
 
 // The bucket of a row: a weighted sum that spreads rows which differ a little in one or two fields.
 fn bucket(row: Row) -> usize
@@ -32,42 +27,40 @@ fn key(row: Row) -> usize
     281474976710656 * tags + fields
 }
 
-// Where row `k` goes. The slots below 1,024 are those of the buckets; behind them each row has two, for its branches. A slot has 0, or one more than a row.
-fn find_spot(book: &[u8], links: &[u16; 3072], k: usize) -> Spot
+// Where row `k` goes, unless it repeats a lower row. The slots below 1,024 are those of the buckets; behind them each row has two, for its branches. A slot has 0, or one more than a row.
+fn find_spot(book: &[u8], links: &[u16; 3072], k: usize) -> Option<usize>
     requires { (8 * k + 8 ≤ length book.now) × (k < 1024) × Linked book.now links.now k }
-    ensures { Spotted book.now links.now k result }
+    ensures { MatchOption result (repeats_lower book.now k ≡ true) (λ slot. FreeSlot book.now links.now k slot) }
 {
-    let row = formula_rows::row_at(book, k);
+    let row = row_at(book, k);
     let mut slot = bucket(row);
     let mut rest = key(row);
-    let mut link = links[slot] as usize;
-    while link > 0 {
-        let lower = formula_rows::row_at(book, link - 1);
-        if formula_rows::same_row(lower, row) {
-            return Spot::Repeated;
+    while links[slot] > 0 {
+        let link = links[slot] as usize;
+        if row_at(book, link - 1) == row {
+            return None;
         }
         slot = 1022 + 2 * link + rest % 2;
-        rest = rest / 2;
-        link = links[slot] as usize;
+        rest /= 2;
     }
-    Spot::Free(slot)
+    Some(slot)
 }
 
-// The lowest of the first `n` rows that repeats a lower one, or `n`.
-pub fn first_repeat(book: &[u8], n: usize) -> usize
-    requires { (n ≤ 1024) × (8 * n ≤ length book.now) }
-    ensures { result ≡ lowest (repeats_lower book.now) n 0 }
+// Check 4 of a book of few rows.
+pub fn check_repeats(book: &[u8]) -> Result<(), Refusal>
+    requires { book_rows book.now ≤ 1024 }
+    ensures { run_meant result ≡ try (each 4 (book_rows book.now) (repeats_lower book.now)) }
 {
     let mut links = [0u16; 3072];
-    let mut k: usize = 0;
-    while k < n {
-        match find_spot(book, &links, k) {
-            Spot::Repeated => return k,
-            Spot::Free(slot) => {
-                k += 1;
-                links[slot] = k as u16;
-            }
-        }
+    // The table of links changes from row to row, so this is no `each`.
+    for k in 0..book.len() / 8 {
+        let Some(slot) = find_spot(book, &links, k) else {
+            return Err(Refusal {
+                check: Check::RepeatedFormula,
+                place: k as u16,
+            });
+        };
+        links[slot] = k as u16 + 1;
     }
-    n
+    Ok(())
 }

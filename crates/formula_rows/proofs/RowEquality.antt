@@ -1,15 +1,12 @@
--- Laws of `same_row`: what is left of it where four fields agree, and that the same rows are equal. Assumes nothing.
-use mathlib.Core.Path.{◌≡◌}
-use mathlib.Core.Bool.{true, ◌&&◌}
+-- Laws of `same_row`: that the same rows are equal, and that `==` answers what it does. Assumes nothing.
+use mathlib.Core.Path.{◌≡◌, refl}
+use mathlib.Core.Bool.{Bool, true, false, ◌&&◌}
 use lib.Dec.{eqb}
-use borrow.Author.Tests.{eq-eqb, eqb-true}
+use borrow.Author.Tests.{eqb-true}
 use Rattle.definition.proofs.Tests.{and_true}
 use Rattle.definition.specs.14-Book.{Row, same_row}
-
-pub same_last :
-    (q r : Row) → q.kind ≡ r.kind → q.code ≡ r.code → q.x ≡ r.x → q.y ≡ r.y → eqb q.z r.z ≡ same_row q r
-unfolding same_row
-same_last q r kind code x y = simp (eq-eqb _ _ kind, eq-eqb _ _ code, eq-eqb _ _ x, eq-eqb _ _ y)
+use Rattle.formula_rows.specs.Meanings.{row_meant}
+use Rattle.formula_rows.specs.declared.rows.Row as rows
 
 pub same_equal : (q r : Row) → same_row q r ≡ true → q ≡ r
 unfolding same_row
@@ -25,3 +22,16 @@ same_equal q r e =
       y = eqb-true q.y r.y y.1 i;
       z = eqb-true q.z r.z z.1 i;
     }
+
+grouped : (p q r s t : Bool) → (p && (q && (r && (s && t)))) ≡ (p && q && r && s && t)
+grouped true true true true t = refl
+grouped true true true false t = refl
+grouped true true false s t = refl
+grouped true false r s t = refl
+grouped false q r s t = refl
+
+-- What `==` answers of two rows, field by field, is what the definition's test answers.
+pub rows_equal :
+    (a b : rows.Row) → (eqb a.kind b.kind && (eqb a.code b.code && (eqb a.x b.x && (eqb a.y b.y && eqb a.z b.z)))) ≡ same_row (row_meant a) (row_meant b)
+unfolding same_row row_meant
+rows_equal a b = grouped (eqb a.kind b.kind) (eqb a.code b.code) (eqb a.x b.x) (eqb a.y b.y) (eqb a.z b.z)

@@ -3,6 +3,7 @@ ghost use Rattle.std.specs.Prelude.{◌≡◌};
 ghost use Rattle.formula_rows.specs.Nodes.{node_of};
 ghost use Rattle.formula_rows.specs.Meanings.{row_meant, node_meant};
 
+use crate::kinds::Kind;
 use crate::rows::Row;
 
 #[derive(Clone, Copy)]
@@ -15,22 +16,20 @@ pub enum Node {
     None,
 }
 
-pub fn node_of(row: Row) -> Node
-    ensures { node_meant result ≡ node_of (row_meant row) }
-{
-    let kind = row.kind;
-    match kind {
-        0 => Node::Leaf(row.x, row.y, row.z),
-        1 => Node::Leaf(row.x, row.y, row.z),
-        2 => Node::Said(row.x, row.y, row.z),
-        3 => Node::Pair(row.x, row.y),
-        4 => Node::Body(row.x),
-        5 => Node::Pair(row.x, row.y),
-        6 => Node::Duty(row.x, row.y),
-        7 => Node::Duty(row.x, row.y),
-        8 => Node::Said(row.x, row.y, row.z),
-        9 => Node::Leaf(row.x, row.y, row.z),
-        10 => Node::Leaf(row.x, row.y, row.z),
-        _ => Node::None,
+impl From<Row> for Node {
+    ghost from_gives = { λ row node. node_meant node ≡ node_of (row_meant row) };
+
+    #[tactic(auto, using(crate::proofs::RowNodes::node_past), unfolding(crate::specs::Nodes::node_of, crate::specs::Nodes::node_table, crate::specs::Meanings::row_meant, crate::specs::Meanings::node_meant))]
+    fn from(row: Row) -> Node {
+        match Kind::try_from(row.kind) {
+            Ok(Kind::Predicate | Kind::Owns | Kind::Creates | Kind::UserAction) => {
+                Node::Leaf(row.x, row.y, row.z)
+            }
+            Ok(Kind::Says | Kind::Communicates) => Node::Said(row.x, row.y, row.z),
+            Ok(Kind::And | Kind::Implies) => Node::Pair(row.x, row.y),
+            Ok(Kind::ForAll) => Node::Body(row.x),
+            Ok(Kind::EachUse | Kind::Once) => Node::Duty(row.x, row.y),
+            Err(_) => Node::None,
+        }
     }
 }

@@ -1,9 +1,9 @@
 // Rows of the formula part, read from the file's bytes.
 ghost use Rattle.std.specs.Prelude.{◌≡◌, ◌+◌, ◌*◌, ◌≤◌, length};
-ghost use Rattle.definition.specs.14-Book.{row_at, same_row};
+ghost use Rattle.definition.specs.14-Book.{row_at};
 ghost use Rattle.formula_rows.specs.Meanings.{row_meant};
 
-#[derive(Clone, Copy)]
+#[derive(Clone, Copy, Debug, PartialEq, Eq)]
 pub struct Row {
     pub kind: u8,
     pub code: u8,
@@ -25,23 +25,4 @@ pub fn row_at(book: &[u8], row: usize) -> Row
         y: words::read_word(book, at + 4),
         z: words::read_word(book, at + 6),
     }
-}
-
-// Do the two rows have the same kind, code and fields?
-pub fn same_row(a: Row, b: Row) -> bool
-    ensures { result ≡ same_row (row_meant a) (row_meant b) }
-{
-    if a.kind != b.kind {
-        return false;
-    }
-    if a.code != b.code {
-        return false;
-    }
-    if a.x != b.x {
-        return false;
-    }
-    if a.y != b.y {
-        return false;
-    }
-    a.z == b.z
 }

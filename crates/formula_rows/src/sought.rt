@@ -18,48 +18,34 @@ pub enum Sought {
 pub fn is_instance(sort: Sort, number: u16) -> bool
     ensures { result ≡ is_instance (sort_meant sort) (class_of number) }
 {
-    let term = Term::of(number);
-    if term.is_object(sort) {
-        return true;
-    }
-    term.is_parameter(sort)
+    let term = Term::from(number);
+    term.is_object(sort) || term.is_parameter(sort)
 }
 
 // May the number stand in a place of the sort?
 pub fn has_sort(sort: Sort, number: u16) -> bool
     ensures { result ≡ has_sort (sort_meant sort) (class_of number) }
 {
-    if is_instance(sort, number) {
-        return true;
-    }
-    let term = Term::of(number);
-    term.is_variable(sort)
+    is_instance(sort, number) || Term::from(number).is_variable(sort)
 }
 
 pub fn is_term(number: u16) -> bool
     ensures { result ≡ is_term (class_of number) }
 {
-    if has_sort(Sort::Agents, number) {
-        return true;
-    }
-    has_sort(Sort::Data, number)
+    has_sort(Sort::Agents, number) || has_sort(Sort::Data, number)
 }
 
 fn is_any_parameter(number: u16) -> bool
     ensures { result ≡ is_sought any_parameter 0 number }
 {
-    let term = Term::of(number);
-    if term.is_parameter(Sort::Agents) {
-        return true;
-    }
-    term.is_parameter(Sort::Data)
+    let term = Term::from(number);
+    term.is_parameter(Sort::Agents) || term.is_parameter(Sort::Data)
 }
 
 pub fn is_data_variable(number: u16) -> bool
     ensures { result ≡ is_sought data_variable 0 number }
 {
-    let term = Term::of(number);
-    term.is_variable(Sort::Data)
+    Term::from(number).is_variable(Sort::Data)
 }
 
 // Is the term, which stands under `depth` for-alls, what is looked for?
@@ -69,7 +55,7 @@ pub fn is_sought(w: Sought, depth: usize, number: u16) -> bool
     match w {
         Sought::Term(u) => number == u,
         Sought::Parameter => is_any_parameter(number),
-        Sought::FreeVariable => Term::of(number).is_free(depth),
-        Sought::Bound(s) => Term::of(number).is_bound(s, depth),
+        Sought::FreeVariable => Term::from(number).is_free(depth),
+        Sought::Bound(s) => Term::from(number).is_bound(s, depth),
     }
 }

@@ -1,32 +1,15 @@
 // Terms: what a number stands for.
-ghost use Rattle.std.specs.Prelude.{◌≡◌, ◌<◌, ◌≤◌};
-ghost use Rattle.definition.specs.12-Terms.{same_sort, class_of, is_object, is_parameter, is_variable, is_free, is_bound};
+ghost use Rattle.std.specs.Prelude.{◌≡◌};
+ghost use Rattle.definition.specs.12-Terms.{class_of, is_object, is_parameter, is_variable, is_free, is_bound};
 ghost use Rattle.formula_rows.specs.Meanings.{sort_meant, term_meant};
 
-#[derive(Clone, Copy)]
+#[derive(Clone, Copy, Debug, PartialEq, Eq)]
 pub enum Sort {
     Agents,
     Data,
 }
 
-impl Sort {
-    pub fn same(self, other: Sort) -> bool
-        ensures { result ≡ same_sort (sort_meant self) (sort_meant other) }
-    {
-        match self {
-            Sort::Agents => match other {
-                Sort::Agents => true,
-                Sort::Data => false,
-            },
-            Sort::Data => match other {
-                Sort::Agents => false,
-                Sort::Data => true,
-            },
-        }
-    }
-}
-
-#[derive(Clone, Copy)]
+#[derive(Clone, Copy, Debug, PartialEq, Eq)]
 pub enum Term {
     Object(Sort),
     Parameter(Sort),
@@ -52,71 +35,13 @@ impl Term {
 
     pub const ABSENT: u16 = 65535;
 
-    // What any number is as a term.
-    pub fn of(number: u16) -> Term
-        ensures { term_meant result ≡ class_of number }
-    {
-        if number < Term::DATA_END {
-            return Term::object(number);
-        }
-        if number < Term::DATA_PARAMETERS_END {
-            return Term::parameter(number);
-        }
-        if number < Term::AGENT_VARIABLES {
-            return Term::Other;
-        }
-        if number < Term::VARIABLES_END {
-            return Term::variable(number);
-        }
-        if number == Term::ABSENT {
-            return Term::Absent;
-        }
-        Term::Other
-    }
-
-    // An agent or a data object.
-    pub fn object(number: u16) -> Term
-        requires { number < 32768 }
-        ensures { term_meant result ≡ class_of number }
-    {
-        if number < Term::AGENTS_END {
-            return Term::Object(Sort::Agents);
-        }
-        Term::Object(Sort::Data)
-    }
-
-    // A parameter of either sort.
-    pub fn parameter(number: u16) -> Term
-        requires { (32768 ≤ number) × (number < 32832) }
-        ensures { term_meant result ≡ class_of number }
-    {
-        if number < Term::AGENT_PARAMETERS_END {
-            return Term::Parameter(Sort::Agents);
-        }
-        Term::Parameter(Sort::Data)
-    }
-
-    // A variable of either sort, with its number.
-    pub fn variable(number: u16) -> Term
-        requires { (40960 ≤ number) × (number < 40976) }
-        ensures { term_meant result ≡ class_of number }
-    {
-        if number < Term::DATA_VARIABLES {
-            return Term::Variable(Sort::Agents, number - Term::AGENT_VARIABLES);
-        }
-        Term::Variable(Sort::Data, number - Term::DATA_VARIABLES)
-    }
-
     // An agent, or a data object.
     pub fn is_object(self, sort: Sort) -> bool
         ensures { result ≡ is_object (sort_meant sort) (term_meant self) }
     {
         match self {
-            Term::Object(s) => sort.same(s),
-            Term::Parameter(_) => false,
-            Term::Variable(_, _) => false,
-            Term::Absent => false,
-            Term::Other => false,
+            Term::Object(s) => sort == s,
+            _ => false,
         }
     }
 
@@ -124,11 +49,8 @@ impl Term {
         ensures { result ≡ is_parameter (sort_meant sort) (term_meant self) }
     {
         match self {
-            Term::Object(_) => false,
-            Term::Parameter(s) => sort.same(s),
-            Term::Variable(_, _) => false,
-            Term::Absent => false,
-            Term::Other => false,
+            Term::Parameter(s) => sort == s,
+            _ => false,
         }
     }
 
@@ -136,11 +58,8 @@ impl Term {
         ensures { result ≡ is_variable (sort_meant sort) (term_meant self) }
     {
         match self {
-            Term::Object(_) => false,
-            Term::Parameter(_) => false,
-            Term::Variable(s, _) => sort.same(s),
-            Term::Absent => false,
-            Term::Other => false,
+            Term::Variable(s, _) => sort == s,
+            _ => false,
         }
     }
 
@@ -149,11 +68,8 @@ impl Term {
         ensures { result ≡ is_free depth (term_meant self) }
     {
         match self {
-            Term::Object(_) => false,
-            Term::Parameter(_) => false,
             Term::Variable(_, n) => depth <= n as usize,
-            Term::Absent => false,
-            Term::Other => false,
+            _ => false,
         }
     }
 
@@ -162,16 +78,28 @@ impl Term {
         ensures { result ≡ is_bound (sort_meant sort) depth (term_meant self) }
     {
         match self {
-            Term::Object(_) => false,
-            Term::Parameter(_) => false,
-            Term::Variable(s, n) => {
-                if sort.same(s) {
-                    return n as usize == depth;
-                }
-                false
-            }
-            Term::Absent => false,
-            Term::Other => false,
+            Term::Variable(s, n) => sort == s && n as usize == depth,
+            _ => false,
+        }
+    }
+}
+
+// What any number is as a term.
+impl From<u16> for Term {
+    ghost from_gives = { λ number term. term_meant term ≡ class_of number };
+
+    #[tactic(auto, using(crate::proofs::Classes::of_agent, crate::proofs::Classes::of_data, crate::proofs::Classes::of_agent_parameter, crate::proofs::Classes::of_data_parameter, crate::proofs::Classes::of_gap, crate::proofs::Classes::of_agent_variable, crate::proofs::Classes::of_data_variable, crate::proofs::Classes::of_absent, crate::proofs::Classes::of_rest), unfolding(crate::specs::Meanings::term_meant, crate::specs::Meanings::sort_meant))]
+    fn from(number: u16) -> Term {
+        match number {
+            ..Term::AGENTS_END => Term::Object(Sort::Agents),
+            ..Term::DATA_END => Term::Object(Sort::Data),
+            ..Term::AGENT_PARAMETERS_END => Term::Parameter(Sort::Agents),
+            ..Term::DATA_PARAMETERS_END => Term::Parameter(Sort::Data),
+            ..Term::AGENT_VARIABLES => Term::Other,
+            ..Term::DATA_VARIABLES => Term::Variable(Sort::Agents, number - Term::AGENT_VARIABLES),
+            ..Term::VARIABLES_END => Term::Variable(Sort::Data, number - Term::DATA_VARIABLES),
+            Term::ABSENT => Term::Absent,
+            _ => Term::Other,
         }
     }
 }

@@ -2,13 +2,13 @@
 use Prim.Native.Nat.{ℕ, ◌+◌, ◌≤◌, ◌<◌}
 use mathlib.Core.Path.{◌≡◌, refl, sym, ap, ◌∙◌}
 use mathlib.Core.Bool.{Bool, true, false, ◌&&◌}
-use mathlib.Core.List.{List}
+use mathlib.Core.List.{List, [], ◌∷◌}
+use Rattle.std.specs.List.{list_all}
 use native.Mathlib.Omega.{arith}
-use lib.Dec.{eqb}
 use Rattle.definition.proofs.Tests.{both_first, both_second}
 use Rattle.definition.proofs.Trees.{Below}
 use Rattle.definition.specs.12-Terms.{Sort}
-use Rattle.definition.specs.13-Formulas.{Formula, same, put, put_term, is_policy, is_action}
+use Rattle.definition.specs.13-Formulas.{Formula, same, put, is_policy, is_action}
 use Rattle.definition.specs.14-Book.{row_at, tree_in, book}
 use Rattle.formula_rows.specs.Nodes.{node_of}
 use Rattle.formula_rows.specs.Meanings.{row_meant, node_meant}
@@ -18,7 +18,7 @@ use Rattle.formula_rows.specs.declared.nodes.Node.TheVariants as node
 use Rattle.formula_walks.specs.WalkRows.{WalkRow}
 use Rattle.formula_walks.specs.CommonNode.{common_node}
 use Rattle.formula_walks.proofs.WalkLaws.{shape, Children, children, InAction, IsNode, in_action, go_on, Before, terms, child, Parts, said_parts, pair_parts, duty_parts, BeforeBelow, parts_below, body_below}
-use Rattle.formula_walks.proofs.InstanceLaws.{like, like_node, inst_node, shape_instance, common}
+use Rattle.formula_walks.proofs.InstanceLaws.{puts, like, like_node, inst_node, shape_instance, common}
 
 -- A row of the same kind as one with these parts has the same parts, by its own fields.
 like_before : rows.Row → Before → Before
@@ -39,7 +39,7 @@ parts_node duty_parts = tt
 
 -- whether the row agrees before the last policy, and in it
 abbrev pub same_before : Sort → ℕ → ℕ → List Formula → rows.Row → Before → Bool
-same_before σ u d l r (terms x z) = eqb r.x (put_term σ u d x) && eqb r.z (put_term σ u d z)
+same_before σ u d l r (terms x z) = list_all (puts σ u d) ((r.x, x) ∷ (r.z, z) ∷ [])
 same_before σ u d l r (child is x) = same (tree_in l r.x) (put σ u d (tree_in l x))
 
 parts_same : (σ : Sort) (u d : ℕ) (l : List Formula) (r : rows.Row) {m : nodes.Node} {b : Before} {y : ℕ} → Parts m b y → inst_node σ u d l (row_meant r) (node_meant m) ≡ same_before σ u d l r b && same (tree_in l r.y) (put σ u d (tree_in l y))
@@ -127,7 +127,7 @@ module _ {is : Formula → Bool} {σ : Sort} {u : ℕ} {s : List ℕ} {t body ro
 module _ {is : Formula → Bool} {σ : Sort} {u : ℕ} {s : List ℕ} {t body row depth from to under : ℕ} {r : rows.Row} where
   pub leaf_same :
       {x y z : ℕ} {q : Bool} → Arm is σ u s t body row depth from to under r (node.Leaf x y z) →
-      q ≡ (eqb r.x (put_term σ u under x) && eqb r.z (put_term σ u under z) && eqb r.y (put_term σ u under y)) → q ≡ put_in σ u depth s body row
+      q ≡ list_all (puts σ u under) ((r.x, x) ∷ (r.z, z) ∷ (r.y, y) ∷ []) → q ≡ put_in σ u depth s body row
   unfolding inst_node node_meant row_meant
   leaf_same a e = e ∙ answer a
 
@@ -144,5 +144,16 @@ module _ {is : Formula → Bool} {σ : Sort} {u : ℕ} {s : List ℕ} {t body ro
   none_same a = answer a
 
 -- An action has no other node than a leaf or what is communicated.
-pub arm_of_action : {σ : Sort} {u : ℕ} {s : List ℕ} {t body row depth from to under : ℕ} {r : rows.Row} {m : nodes.Node} → Arm is_action σ u s t body row depth from to under r m → IsNode (node_meant m) → InAction (node_meant m)
+arm_of_action : {σ : Sort} {u : ℕ} {s : List ℕ} {t body row depth from to under : ℕ} {r : rows.Row} {m : nodes.Node} → Arm is_action σ u s t body row depth from to under r m → IsNode (node_meant m) → InAction (node_meant m)
 arm_of_action a i = in_action a.ahead.first a.ahead.first.kind (first_node a i).0
+
+-- So where it is neither, there is no common node.
+module _ {σ : Sort} {u : ℕ} {s : List ℕ} {t body row depth from to under : ℕ} {r : rows.Row} where
+  pub neither_same : (m : nodes.Node) → Arm is_action σ u s t body row depth from to under r m → ((x y z : ℕ) → m ≡ node.Leaf x y z → ⊥) → ((x y z : ℕ) → m ≡ node.Said x y z → ⊥) → false ≡ put_in σ u depth s body row
+  unfolding node_meant
+  neither_same (node.Leaf x y z) a leaf said = absurd (leaf x y z refl)
+  neither_same (node.Said x y z) a leaf said = absurd (said x y z refl)
+  neither_same (node.Pair x y) a leaf said = absurd (arm_of_action a tt)
+  neither_same (node.Body x) a leaf said = absurd (arm_of_action a tt)
+  neither_same (node.Duty x y) a leaf said = absurd (arm_of_action a tt)
+  neither_same node.None a leaf said = none_same a

@@ -2,9 +2,10 @@
 -- Assumes nothing.
 use Prim.Native.Nat.{ℕ, ◌+◌}
 use mathlib.Core.Path.{◌≡◌, refl, sym, ap, ◌∙◌}
-use mathlib.Core.Bool.{Bool, true, false, ◌&&◌}
+use mathlib.Core.Bool.{Bool, true, false, ◌&&◌, and-true, and_assoc}
 use mathlib.Core.Logic.{◌↔◌}
-use mathlib.Core.List.{List}
+use mathlib.Core.List.{List, [], ◌∷◌}
+use Rattle.std.specs.List.{list_all}
 use lib.Dec.{eqb}
 use lib.ListN.{get_or-map}
 use borrow.Author.Tests.{eqb-true, eq-eqb}
@@ -22,7 +23,6 @@ use Rattle.definition.proofs.OneNumber.{fields_of, fields}
 use Rattle.formula_walks.proofs.WalkLaws.{IsNode}
 
 -- Trees with the same head are equal where their parts are.
-
 decided : {b : Bool} {P : Type 0} (f g : Formula) → ((b ≡ true) ↔ P) → (f ≡ g → P) → (P → f ≡ g) → same f g ≡ b
 decided f g h to from = one_answer (same f g) (same_is f g) (λ e. from (h.0 e), λ q. h.1 (to q))
 
@@ -119,10 +119,22 @@ pub like_node : (q r : Row) → q.kind ≡ r.kind → node_of r ≡ like r (node
 unfolding node_of node_table like
 like_node q r e = rw e (get_or-map (like r) (node_table q) r.kind no_node)
 
+-- Is the first of the pair the second, with the term put in?
+abbrev pub puts : Sort → ℕ → ℕ → ℕ × ℕ → Bool
+puts σ t d p = eqb p.0 (put_term σ t d p.1)
+
+-- All of two pairs, and of three.
+module _ (f : ℕ × ℕ → Bool) (p q : ℕ × ℕ) where
+  all_two : (f p && f q) ≡ list_all f (p ∷ q ∷ [])
+  all_two = sym (ap (λ b. f p && b) (and-true (f q)))
+
+  all_three : (r : ℕ × ℕ) → (f p && f q && f r) ≡ list_all f (p ∷ q ∷ r ∷ [])
+  all_three r = sym (ap (λ b. f p && (f q && b)) (and-true (f r)) ∙ sym (and_assoc (f p) (f q) (f r)))
+
 -- Whether a row's tree is that of a node with the term put in, if both have one kind and code.
 unfoldable pub inst_node : Sort → ℕ → ℕ → List Formula → Row → Node → Bool
-inst_node σ t d l r (leaf x y z) = eqb r.x (put_term σ t d x) && eqb r.z (put_term σ t d z) && eqb r.y (put_term σ t d y)
-inst_node σ t d l r (said x y z) = eqb r.x (put_term σ t d x) && eqb r.z (put_term σ t d z) && same (tree_in l r.y) (put σ t d (tree_in l y))
+inst_node σ t d l r (leaf x y z) = list_all (puts σ t d) ((r.x, x) ∷ (r.z, z) ∷ (r.y, y) ∷ [])
+inst_node σ t d l r (said x y z) = list_all (puts σ t d) ((r.x, x) ∷ (r.z, z) ∷ []) && same (tree_in l r.y) (put σ t d (tree_in l y))
 inst_node σ t d l r (pair x y) = same (tree_in l r.x) (put σ t d (tree_in l x)) && same (tree_in l r.y) (put σ t d (tree_in l y))
 inst_node σ t d l r (body x) = same (tree_in l r.x) (put σ t (d + 1) (tree_in l x))
 inst_node σ t d l r (duty x y) = same (tree_in l r.x) (put σ t d (tree_in l x)) && same (tree_in l r.y) (put σ t d (tree_in l y))
@@ -131,21 +143,21 @@ inst_node σ t d l r no_node = false
 module _ (σ : Sort) (t d : ℕ) {l : List Formula} {j k : ℕ} {q r : Row} where
   shape_same : Shape l j q → Shape l k r → q.kind ≡ r.kind → q.code ≡ r.code → same (tree_in l k) (put σ t d (tree_in l j)) ≡ inst_node σ t d l r (node_of q)
   unfolding tree_of put node_of node_table inst_node fields_of
-  shape_same (predicate_row e f u) h kind code = rw (shape_tree h, sym kind ∙ e, u, e) (same_predicate _ _ _ _ _ _ _ _ (sym code))
+  shape_same (predicate_row e f u) h kind code = rw (shape_tree h, sym kind ∙ e, u, e) (same_predicate _ _ _ _ _ _ _ _ (sym code) ∙ all_three (puts σ t d) (r.x, q.x) (r.z, q.z) (r.y, q.y))
   shape_same (owns_row e f u) h kind code =
       let v : tree_in l k ≡ owns r.x r.y = rw (shape_tree h, sym kind ∙ e) in
-      rw (v, u, e) (same_owns _ _ _ _ _ _ (absent_both σ t d r.z q.z (rw v at (fields h).z) f.rest))
-  shape_same (says_row e f u) h kind code = rw (shape_tree h, sym kind ∙ e, u, e) (same_says _ _ _ _ _ _)
+      rw (v, u, e) (same_owns _ _ _ _ _ _ (absent_both σ t d r.z q.z (rw v at (fields h).z) f.rest) ∙ all_three (puts σ t d) (r.x, q.x) (r.z, q.z) (r.y, q.y))
+  shape_same (says_row e f u) h kind code = rw (shape_tree h, sym kind ∙ e, u, e) (same_says _ _ _ _ _ _ ∙ ap (λ b. b && same (tree_in l r.y) (put σ t d (tree_in l q.y))) (all_two (puts σ t d) (r.x, q.x) (r.z, q.z)))
   shape_same (and_row e f u) h kind code = rw (shape_tree h, sym kind ∙ e, u, e) (same_and _ _ _ _)
   shape_same (for_all_row e f u) h kind code = rw (shape_tree h, sym kind ∙ e, u, e) (same_for_all _ _ _ _ (ap sort_of_code (sym code)))
   shape_same (implies_row e f u) h kind code = rw (shape_tree h, sym kind ∙ e, u, e) (same_implies _ _ _ _)
   shape_same (each_use_row e f u) h kind code = rw (shape_tree h, sym kind ∙ e, u, e) (same_after _ _ _ _ _)
   shape_same (once_row e f u) h kind code = rw (shape_tree h, sym kind ∙ e, u, e) (same_after _ _ _ _ _)
-  shape_same (communicates_row e f u) h kind code = rw (shape_tree h, sym kind ∙ e, u, e) (same_communicates _ _ _ _ _ _)
+  shape_same (communicates_row e f u) h kind code = rw (shape_tree h, sym kind ∙ e, u, e) (same_communicates _ _ _ _ _ _ ∙ ap (λ b. b && same (tree_in l r.y) (put σ t d (tree_in l q.y))) (all_two (puts σ t d) (r.x, q.x) (r.z, q.z)))
   shape_same (creates_row e f u) h kind code =
       let v : tree_in l k ≡ creates r.x r.y = rw (shape_tree h, sym kind ∙ e) in
-      rw (v, u, e) (same_creates _ _ _ _ _ _ (absent_both σ t d r.z q.z (rw v at (fields h).z) f.rest))
-  shape_same (user_action_row e f g u) h kind code = rw (shape_tree h, sym kind ∙ e, u, e) (same_user_action _ _ _ _ _ _ _ _ (sym code))
+      rw (v, u, e) (same_creates _ _ _ _ _ _ (absent_both σ t d r.z q.z (rw v at (fields h).z) f.rest) ∙ all_three (puts σ t d) (r.x, q.x) (r.z, q.z) (r.y, q.y))
+  shape_same (user_action_row e f g u) h kind code = rw (shape_tree h, sym kind ∙ e, u, e) (same_user_action _ _ _ _ _ _ _ _ (sym code) ∙ all_three (puts σ t d) (r.x, q.x) (r.z, q.z) (r.y, q.y))
 
   shape_heads : Shape l j q → Shape l k r → tree_in l k ≡ put σ t d (tree_in l j) → (q.kind ≡ r.kind) × (q.code ≡ r.code)
   shape_heads g h e =

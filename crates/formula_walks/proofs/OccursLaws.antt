@@ -1,8 +1,9 @@
 -- What an occurrence walk finds in a row, by its node, and what follows for the whole that it walks. By the eleven shapes of a row that is not bad. Assumes nothing.
 use Prim.Native.Nat.{ℕ, ◌+◌, ◌≤◌, ◌<◌}
 use mathlib.Core.Path.{◌≡◌, refl, sym, ap, ◌∙◌}
-use mathlib.Core.Bool.{Bool, true, false, ◌||◌, or-false}
-use mathlib.Core.List.{List}
+use mathlib.Core.Bool.{Bool, true, false, ◌||◌, or-false, or_assoc}
+use mathlib.Core.List.{List, [], ◌∷◌}
+use Rattle.std.specs.List.{list_any}
 use native.Mathlib.Omega.{arith}
 use Rattle.definition.proofs.Tests.{either_first, either_second}
 use Rattle.definition.proofs.Trees.{Shape, predicate_row, owns_row, says_row, and_row, for_all_row, implies_row, each_use_row, once_row, communicates_row, creates_row, user_action_row}
@@ -15,10 +16,18 @@ use Rattle.formula_rows.specs.declared.nodes.Node.TheVariants as node
 use Rattle.formula_walks.specs.WalkRows.{WalkRow, Present}
 use Rattle.formula_walks.proofs.WalkLaws.{shape, Before, terms, child, Parts, said_parts, pair_parts, duty_parts, Here, to_first, to_last, to_body}
 
+-- of two terms, and of three, as a list
+module _ (f : ℕ → Bool) (x y : ℕ) where
+  any_two : (f x || f y) ≡ list_any f (x ∷ y ∷ [])
+  any_two = sym (ap (λ b. f x || b) (or-false (f y)))
+
+  any_three : (z : ℕ) → (f x || f y || f z) ≡ list_any f (x ∷ y ∷ z ∷ [])
+  any_three z = sym (ap (λ b. f x || (f y || b)) (or-false (f z)) ∙ sym (or_assoc (f x) (f y) (f z)))
+
 -- what is found in a node
 has_node : Sought → ℕ → List Formula → Node → Bool
-has_node w d l (leaf x y z) = is_sought w d x || is_sought w d y || is_sought w d z
-has_node w d l (said x y z) = is_sought w d x || is_sought w d z || has w d (tree_in l y)
+has_node w d l (leaf x y z) = list_any (is_sought w d) (x ∷ y ∷ z ∷ [])
+has_node w d l (said x y z) = list_any (is_sought w d) (x ∷ z ∷ []) || has w d (tree_in l y)
 has_node w d l (pair x y) = has w d (tree_in l x) || has w d (tree_in l y)
 has_node w d l (body x) = has w (d + 1) (tree_in l x)
 has_node w d l (duty x y) = has w d (tree_in l x) || has w d (tree_in l y)
@@ -26,21 +35,21 @@ has_node w d l no_node = false
 
 shape_has : {l : List Formula} {k : ℕ} {r : Row} (w : Sought) → Present w → (d : ℕ) → Shape l k r → has w d (tree_in l k) ≡ has_node w d l (node_of r)
 unfolding has has_node node_of node_table
-shape_has w p d (predicate_row e f t) = rw (t, e)
-shape_has w p d (owns_row e f t) = rw (t, e, f.rest, p d) (sym (or-false _))
-shape_has w p d (says_row e f t) = rw (t, e)
+shape_has {l} {k} {r} w p d (predicate_row e f t) = rw (t, e) (any_three (is_sought w d) r.x r.y r.z)
+shape_has {l} {k} {r} w p d (owns_row e f t) = rw (t, e, f.rest, p d) (any_two (is_sought w d) r.x r.y)
+shape_has {l} {k} {r} w p d (says_row e f t) = rw (t, e) (ap (λ b. b || has w d (tree_in l r.y)) (any_two (is_sought w d) r.x r.z))
 shape_has w p d (and_row e f t) = rw (t, e)
 shape_has w p d (for_all_row e f t) = rw (t, e)
 shape_has w p d (implies_row e f t) = rw (t, e)
 shape_has w p d (each_use_row e f t) = rw (t, e)
 shape_has w p d (once_row e f t) = rw (t, e)
-shape_has w p d (communicates_row e f t) = rw (t, e)
-shape_has w p d (creates_row e f t) = rw (t, e, f.rest, p d) (sym (or-false _))
-shape_has w p d (user_action_row e f g t) = rw (t, e)
+shape_has {l} {k} {r} w p d (communicates_row e f t) = rw (t, e) (ap (λ b. b || has w d (tree_in l r.y)) (any_two (is_sought w d) r.x r.z))
+shape_has {l} {k} {r} w p d (creates_row e f t) = rw (t, e, f.rest, p d) (any_two (is_sought w d) r.x r.y)
+shape_has {l} {k} {r} w p d (user_action_row e f g t) = rw (t, e) (any_three (is_sought w d) r.x r.y r.z)
 
 -- of a node that ends in a policy: what is found before it, and in it
 abbrev pub has_before : Sought → ℕ → List Formula → Before → Bool
-has_before w d l (terms x z) = is_sought w d x || is_sought w d z
+has_before w d l (terms x z) = list_any (is_sought w d) (x ∷ z ∷ [])
 has_before w d l (child is x) = has w d (tree_in l x)
 
 parts_have : {m : nodes.Node} {b : Before} {y : ℕ} (w : Sought) (d : ℕ) (l : List Formula) → Parts m b y → has_node w d l (node_meant m) ≡ has_before w d l b || has w d (tree_in l y)
@@ -99,7 +108,7 @@ module _ {is : Formula → Bool} {w : Sought} {s : List ℕ} {t row depth place 
 
 -- a leaf, and a for-all
 module _ {is : Formula → Bool} {w : Sought} {s : List ℕ} {t row depth place under : ℕ} where
-  pub leaf_found : {x y z : ℕ} {r : Bool} → Arm is w s t row depth place under (node.Leaf x y z) → r ≡ (is_sought w under x || is_sought w under y || is_sought w under z) → r ≡ has w depth (tree_in (book s) row)
+  pub leaf_found : {x y z : ℕ} {r : Bool} → Arm is w s t row depth place under (node.Leaf x y z) → r ≡ list_any (is_sought w under) (x ∷ y ∷ z ∷ []) → r ≡ has w depth (tree_in (book s) row)
   unfolding has_node node_meant
   leaf_found a e = e ∙ found a
 

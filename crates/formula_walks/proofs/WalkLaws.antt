@@ -120,18 +120,20 @@ module _ {is : Formula → Bool} {s : List ℕ} {row depth : ℕ} (g : WalkRow i
   pub in_action : {n : Node} → is_action (tree_in (book s) row) ≡ true → node_of (row_at s row) ≡ n → InAction n
   in_action a e = rw (← e) (⊎_elim (λ h. rw h tt) (λ h. rw (action_said (row_at s row) h) tt) (shape_action shape a))
 
-  -- the node of an action that the code has read
-  pub leaf_read : (q : rows.Row) → row_meant q ≡ row_at s row → is_action (tree_in (book s) row) ≡ true → (q.kind ≡ 8 → ⊥) → node_of (row_at s row) ≡ node_meant (node.Leaf q.x q.y q.z)
-  unfolding row_meant node_meant
-  leaf_read q e a other = rw (← e) (⊎_elim (λ h. h) (λ h. absurd (other h)) (shape_action (rw (← e) at shape) a))
-
+  -- the node of a leaf that the code has read
   pub own_leaf : (q : rows.Row) (x y z : ℕ) → row_meant q ≡ row_at s row → node_of (row_at s row) ≡ node_meant (node.Leaf x y z) → node_of (row_at s row) ≡ node_meant (node.Leaf q.x q.y q.z)
   unfolding row_meant node_meant
   own_leaf q x y z e n = rw (← e) (shape_leaf (rw (← e) at shape) (rw (e, n) tt))
 
-  pub said_read : (q : rows.Row) → row_meant q ≡ row_at s row → q.kind ≡ 8 → node_of (row_at s row) ≡ node_meant (node.Said q.x q.y q.z)
-  unfolding row_meant node_meant
-  said_read q e kind = rw (← e) (action_said (row_meant q) kind)
+  -- the node of an action that the code has read, and that is no communication
+  pub leaf_read : (q : rows.Row) (m : nodes.Node) → row_meant q ≡ row_at s row → node_meant m ≡ node_of (row_meant q) → is_action (tree_in (book s) row) ≡ true → ((x y z : ℕ) → m ≡ node.Said x y z → ⊥) → node_of (row_at s row) ≡ node_meant (node.Leaf q.x q.y q.z)
+  unfolding node_meant
+  leaf_read q (node.Leaf x y z) e n a other = own_leaf q x y z e (ap node_of (sym e) ∙ sym n)
+  leaf_read q (node.Said x y z) e n a other = absurd (other x y z refl)
+  leaf_read q (node.Pair x y) e n a other = absurd (in_action a (ap node_of (sym e) ∙ sym n))
+  leaf_read q (node.Body x) e n a other = absurd (in_action a (ap node_of (sym e) ∙ sym n))
+  leaf_read q (node.Duty x y) e n a other = absurd (in_action a (ap node_of (sym e) ∙ sym n))
+  leaf_read q node.None e n a other = absurd (in_action a (ap node_of (sym e) ∙ sym n))
 
   -- a walk may go on to a child
   pub go_on : {js : Formula → Bool} {n : ℕ} (d : ℕ) → d ≤ depth + 1 → Below js (book s) row n → WalkRow js s n d

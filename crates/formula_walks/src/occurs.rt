@@ -1,30 +1,18 @@
 // Does what is looked for stand in a formula? A policy holds an action, and a communicated action holds a policy: the two walks call each other, the row number falling.
-ghost use Rattle.std.specs.Prelude.{◌≡◌, ◌||◌};
+ghost use Rattle.std.specs.Prelude.{◌≡◌};
+ghost use Rattle.std.specs.List.{list_any};
 ghost use Rattle.definition.specs.13-Formulas.{is_policy, is_action, is_sought, has};
 ghost use Rattle.definition.specs.14-Book.{tree_in, book as trees};
 ghost use Rattle.formula_walks.specs.WalkRows.{WalkRow, Present};
 ghost use Rattle.formula_rows.specs.Meanings.{sought_meant};
 
-use formula_rows::{Node, Sought, is_sought, node_of, row_at};
+use formula_rows::{Node, Sought, is_sought, row_at};
 
-// One of two terms.
-fn two_have(w: Sought, depth: usize, x: u16, y: u16) -> bool
-    ensures { result ≡ (is_sought (sought_meant w) depth x || is_sought (sought_meant w) depth y) }
+// One of the terms.
+fn terms_have(w: Sought, depth: usize, terms: &[u16]) -> bool
+    ensures { result ≡ list_any (is_sought (sought_meant w) depth) terms.now }
 {
-    if is_sought(w, depth, x) {
-        return true;
-    }
-    is_sought(w, depth, y)
-}
-
-// One of three terms.
-fn three_have(w: Sought, depth: usize, x: u16, y: u16, z: u16) -> bool
-    ensures { result ≡ (is_sought (sought_meant w) depth x || is_sought (sought_meant w) depth y || is_sought (sought_meant w) depth z) }
-{
-    if two_have(w, depth, x, y) {
-        return true;
-    }
-    is_sought(w, depth, z)
+    terms.iter().any(|x| is_sought(w, depth, *x))
 }
 
 // Policy `row`, which stands under `depth` for-alls. A node's last policy is walked by the same loop, so that formulas deep on that side take no calls.
@@ -37,10 +25,10 @@ pub fn policy_has(book: &[u8], w: Sought, depth: usize, row: usize) -> bool
     let mut at = row;
     let mut under = depth;
     loop {
-        match node_of(row_at(book, at)) {
-            Node::Leaf(x, y, z) => return three_have(w, under, x, y, z),
+        match Node::from(row_at(book, at)) {
+            Node::Leaf(x, y, z) => return terms_have(w, under, &[x, y, z]),
             Node::Said(x, y, z) => {
-                if two_have(w, under, x, z) {
+                if terms_have(w, under, &[x, z]) {
                     return true;
                 }
                 at = y as usize;
@@ -74,11 +62,10 @@ pub fn action_has(book: &[u8], w: Sought, depth: usize, row: usize) -> bool
     ensures { result ≡ has (sought_meant w) depth (tree_in (trees book.now) row) }
 {
     let own = row_at(book, row);
-    if own.kind != 8 {
-        return three_have(w, depth, own.x, own.y, own.z);
+    match Node::from(own) {
+        Node::Said(x, y, z) => {
+            terms_have(w, depth, &[x, z]) || policy_has(book, w, depth, y as usize)
+        }
+        _ => terms_have(w, depth, &[own.x, own.y, own.z]),
     }
-    if two_have(w, depth, own.x, own.z) {
-        return true;
-    }
-    policy_has(book, w, depth, own.y as usize)
 }

@@ -8,14 +8,14 @@ ghost use Rattle.definition.specs.47-Indexed.{AnsweredThrough};
 ghost use Rattle.definition.specs.71-Nights.{lent_for, NightAnswered};
 ghost use Rattle.answers.specs.Meanings.{verdict_numbers_meant, run_numbers_meant};
 
-use answers::{RunNumbers, VerdictNumbers, count_numbers, run_numbers, verdict_numbers};
+use answers::{RunNumbers, VerdictNumbers};
 
 // The verdict on any bytes, and the room after it.
 #[unsafe(no_mangle)]
 pub extern "C" fn justification_check(file: &[u8], room: &mut [u16]) -> VerdictNumbers
     ensures { Answered verdict_numbers file.now room.old (verdict_numbers_meant result) room.new }
 {
-    verdict_numbers(checker::check(file, room))
+    VerdictNumbers::from(checker::check(file, room))
 }
 
 // The answer to any bytes as a case file, by checks 1 to 9.
@@ -23,7 +23,7 @@ pub extern "C" fn justification_check(file: &[u8], room: &mut [u16]) -> VerdictN
 pub extern "C" fn justification_admit(file: &[u8]) -> RunNumbers
     ensures { AdmissionAnswered run_numbers file.now (run_numbers_meant result) }
 {
-    run_numbers(case_file::admit(file))
+    RunNumbers::from(case_file::admit(file))
 }
 
 // The index by observer of the log of any bytes as a case file, into a room of any length: checks 1 to 5, then 29.
@@ -31,7 +31,7 @@ pub extern "C" fn justification_admit(file: &[u8]) -> RunNumbers
 pub extern "C" fn justification_index(file: &[u8], index: &mut [u16]) -> VerdictNumbers
     ensures { (verdict_numbers_meant result ≡ count_numbers (building file.now index.old).answer) × (index.new ≡ (building file.now index.old).room) }
 {
-    count_numbers(observer_index::build(file, index))
+    VerdictNumbers::from(observer_index::build(file, index))
 }
 
 // The verdict on any bytes through any table as the index of their log, and the room after it.
@@ -43,7 +43,7 @@ pub extern "C" fn justification_check_indexed(
 ) -> VerdictNumbers
     ensures { AnsweredThrough verdict_numbers file.now index.now room.old (verdict_numbers_meant result) room.new }
 {
-    verdict_numbers(observer_index::check_through(file, index, room))
+    VerdictNumbers::from(observer_index::check_through(file, index, room))
 }
 
 // The verdicts on any bytes as files, by any bytes as the list of where they are, and the room after them: 33, or each file alone where the passes before it stopped writing.
@@ -56,7 +56,7 @@ pub extern "C" fn justification_night(
 ) -> VerdictNumbers
     ensures { NightAnswered count_numbers (lent_for files.now list.now verdicts.old room.old) (verdict_numbers_meant result) verdicts.new room.new }
 {
-    count_numbers(night::check_night(files, list, verdicts, room))
+    VerdictNumbers::from(night::check_night(files, list, verdicts, room))
 }
 
 // The answer to any bytes as a book, by checks 3 and 4: for the tests and the benchmark of the book alone.
@@ -64,7 +64,7 @@ pub extern "C" fn justification_night(
 pub extern "C" fn formula_book_admit(book: &[u8]) -> RunNumbers
     ensures { run_numbers_meant result ≡ run_numbers (book_admission book.now) }
 {
-    run_numbers(formula_book::admit(book))
+    RunNumbers::from(formula_book::admit(book))
 }
 
 // The same, and the column of sizes after it: byte k is the nodes of formula k.
@@ -72,5 +72,5 @@ pub extern "C" fn formula_book_admit(book: &[u8]) -> RunNumbers
 pub extern "C" fn formula_book_sizes(book: &[u8], sizes: &mut [u8; 1024]) -> RunNumbers
     ensures { (run_numbers_meant result ≡ run_numbers (book_admission book.now)) × (sizes.new ≡ size_column book.now sizes.old) }
 {
-    run_numbers(formula_book::admit_into(book, sizes))
+    RunNumbers::from(formula_book::admit_into(book, sizes))
 }

@@ -18,6 +18,9 @@ use Rattle.definition.specs.32-Numbers.{verdict_entry}
 use Rattle.definition.specs.36-Night.{pair_offset, pair_length, pair_end, pair_checks, file_at, entries_of, Night, told, night}
 use Rattle.definition.specs.45-Promises.{Answered}
 use Rattle.definition.specs.71-Nights.{NightLent, night_of, Sound, files_in, file, began, alone, NightAnswered}
+use Rattle.std.specs.Prelude.{Result, Ok, Err}
+use Rattle.words.specs.Meanings.{check_number, run_meant}
+use Rattle.words.specs.declared.runs.Refusal.{Refusal}
 use Rattle.words.proofs.LentParts.{lent_part, part_back}
 use Rattle.night.specs.Nights.{CheckedAlone, AllTold}
 
@@ -27,7 +30,7 @@ module _ (files list : List ℕ) (k : ℕ) {a e : ℕ} (begins : a ≡ pair_offs
   unfolding file_at pair_end
   its_bytes = let long : e - a ≡ pair_length list k = omega arith in rw (long, begins)
 
-  pub checked_alone : {room after : List ℕ} {r : Verdict} → Answered (λ v. v) (mid_of a (e - a) files) room (verdict_meant r) after → CheckedAlone (file_at files list k) room r after
+  pub checked_alone : {room after : List ℕ} {r : Result Verdict Refusal} → Answered (λ v. v) (mid_of a (e - a) files) room (verdict_meant r) after → CheckedAlone (file_at files list k) room r after
   checked_alone {room} h = record { is = answer_is (λ v. v) h ∙ ap (λ (s : List ℕ). (outcome s room).verdict) its_bytes; room_is = room_is (λ v. v) h ∙ ap (λ (s : List ℕ). (outcome s room).room) its_bytes }
 
 module _ (i : NightLent) where
@@ -63,7 +66,7 @@ module _ (i : NightLent) where
     part_is : mid_of d (length room - d) room ≡ drop (began i k) i.room
     part_is = lent_part d room ∙ ap₂ (λ (n : ℕ) (l : List ℕ). drop n l) t.at t.room_is ∙ files.part_kept i k
 
-    module _ (v : Verdict) (after : List ℕ) (h : CheckedAlone (file i k) (mid_of d (length room - d) room) v after) where
+    module _ (v : Result Verdict Refusal) (after : List ℕ) (h : CheckedAlone (file i k) (mid_of d (length room - d) room) v after) where
       verdict_is : verdict_meant v ≡ (alone i k).verdict
       verdict_is = h.is ∙ ap (λ (l : List ℕ). (outcome (file i k) l).verdict) part_is
 
@@ -97,13 +100,14 @@ module _ (i : NightLent) where
         }
 
 -- What a night's call answers where 33 comes, and where it does not.
-pub refused_night : (i : NightLent) {n p : ℕ} → refuses n p ≡ in_order (pair_checks i.files i.list) → NightAnswered (λ c. c) i (refuses n p) i.verdicts i.room
-unfolding night told
-refused_night i {n} {p} e =
-    let is : night_of i ≡ record { answer = refuses n p; verdicts = i.verdicts; room = i.room } = rw (← e) in
+pub refused_night : (i : NightLent) (r : Refusal) → run_meant {A = Unit {0}} (Err r) ≡ in_order (pair_checks i.files i.list) → NightAnswered (λ c. c) i (run_meant (Err r)) i.verdicts i.room
+unfolding night told run_meant
+refused_night i r e =
+    let is : night_of i ≡ record { answer = refuses (check_number r.check) r.place; verdicts = i.verdicts; room = i.room } = rw (← e) in
     night_answered (λ c. c) i _ _ _ (ap (λ (x : Night). x.answer) (sym is)) (ap (λ (x : Night). x.verdicts) (sym is)) (ap (λ (x : Night). x.room) (sym is))
 
 pub checked_night :
     (i : NightLent) (n : ℕ) (verdicts : List (List ℕ)) (room : List ℕ) → Sound i → n ≡ files_in i → AllTold i verdicts room →
-    NightAnswered (λ c. c) i (accepts n) verdicts room
+    NightAnswered (λ c. c) i (run_meant (Ok n)) verdicts room
+unfolding run_meant
 checked_night i n verdicts room sound is t = night_answered (λ c. c) i _ _ _ (ap accepts is ∙ ap (λ (x : Night). x.answer) (sym (night_is i sound))) t.verdicts_are t.room_is

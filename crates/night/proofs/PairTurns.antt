@@ -1,20 +1,22 @@
 -- The loop over the pairs: what a pair passed means for the next one, and what the loop comes to. Assumes nothing.
 use Prim.Native.Nat.{ℕ, ◌+◌, ◌-◌, ◌≤◌, ◌<◌}
 use mathlib.Core.Path.{◌≡◌, sym, ◌∙◌}
-use mathlib.Core.Bool.{true, false, or-false}
+use mathlib.Core.Bool.{Bool, true, false, or-false}
 use mathlib.Core.Logic.{inl, inr, ⊎_elim}
 use mathlib.Core.List.{List}
 use native.Mathlib.Omega.{arith}
 use lib.ListN.{length}
 use lib.Dec.{eqb, ltb}
 use borrow.Author.Tests.{lt-ltb, le-ltb, lt-leb, ne_eqb}
-use Rattle.definition.proofs.CheckLaws.{lowest_fails, lowest_holds, stops, hold_all}
+use Rattle.definition.proofs.CheckLaws.{try_refuses, stops, hold_all}
 use Rattle.definition.proofs.NightPairs.{bad_pair_is}
 use Rattle.definition.proofs.Tests.{refutes, below_or_not}
-use Rattle.definition.specs.04-Checks.{accepts, refuses, in_order}
+use Rattle.definition.specs.04-Checks.{single, try, in_order}
 use Rattle.definition.specs.36-Night.{most_files, pair_offset, pair_end, last_end, whole_pairs, begun_pairs, bad_pair, pair_checks}
 use Rattle.definition.specs.71-Nights.{BadPair}
-use Rattle.words.proofs.Searches.{Passed, passed_found, passed_all}
+use Rattle.std.specs.Prelude.{Ok, Err}
+use Rattle.words.specs.Meanings.{run_meant}
+use Rattle.words.specs.declared.runs.Refusal.{Refusal}
 
 module _ (files list : List ℕ) where
   -- What is at fault, as the test has it; and where all but its end is in order, the end decides.
@@ -48,20 +50,18 @@ module _ (files list : List ℕ) where
       let one : k + 1 - 1 ≡ k = omega arith in
       rw (some, one)
 
-  module _ {n k : ℕ} (all : n ≡ begun_pairs list) (h : Passed (bad_pair files list) (begun_pairs list) k) where
-    -- So the loop never comes beyond the 65th.
+  -- Where no pair below k is at fault: the loop never comes beyond the 65th.
+  module _ {k : ℕ} (none : (j : ℕ) → j < k → bad_pair files list j ≡ false) where
     pub few_passed : k ≤ most_files
-    few_passed =
-        ⊎_elim (λ many. absurd (omega (arith, (not_at_fault (h.none most_files many)).1))) (λ le. le) (below_or_not most_files k)
+    few_passed = ⊎_elim (λ many. absurd (omega (arith, (not_at_fault (none most_files many)).1))) (λ le. le) (below_or_not most_files k)
 
-    pub found_bad : k < n → bad_pair files list k ≡ true → refuses 33 k ≡ in_order (pair_checks files list)
-    unfolding pair_checks
-    found_bad lt e =
-        let is = passed_found (bad_pair files list) (begun_pairs list) h (omega arith) e in
-        sym (stops _ _ 33 k (lowest_fails 33 (bad_pair files list) is (omega arith)))
+    -- Check 33 refuses pair k just if it refuses the list there, and where there is no pair k it accepts.
+    pub found_bad : (r : Refusal) → k < begun_pairs list → {b : Bool} → b ≡ bad_pair files list k → run_meant {A = Unit {0}} (Err r) ≡ try (single 33 k b) → run_meant {A = Unit {0}} (Err r) ≡ in_order (pair_checks files list)
+    unfolding run_meant pair_checks
+    found_bad r lt is e =
+        let f = try_refuses _ _ _ (sym e) in
+        sym (stops _ _ _ _ (f.0, (rw (← f.1) lt, rw (← f.1) (sym is ∙ f.2), λ j below. none j (rw f.1 below))))
 
-    pub none_found : n ≤ k → accepts tt ≡ in_order (pair_checks files list)
-    unfolding pair_checks
-    none_found le =
-        let is = passed_all (bad_pair files list) (begun_pairs list) h (omega arith) in
-        sym (hold_all _ (lowest_holds 33 (bad_pair files list) is (omega arith), tt))
+    pub none_found : begun_pairs list ≤ k → run_meant (Ok tt) ≡ in_order (pair_checks files list)
+    unfolding run_meant pair_checks
+    none_found le = sym (hold_all _ ((λ j lt. none j (omega arith)), tt))

@@ -1,10 +1,10 @@
 // The list of pairs: where each file begins and ends in the buffer, and check 33.
-ghost use Rattle.std.specs.Prelude.{◌≡◌, ◌+◌, ◌<◌};
+ghost use Rattle.std.specs.Prelude.{◌≡◌, ◌<◌};
 ghost use Rattle.definition.specs.04-Checks.{in_order};
 ghost use Rattle.definition.specs.36-Night.{whole_pairs, begun_pairs, pair_offset, pair_end, last_end, bad_pair, pair_checks};
-ghost use Rattle.words.specs.Meanings.{failure_meant};
+ghost use Rattle.words.specs.Meanings.{run_meant};
 
-use words::{Failure, read_long};
+use words::{Check, Refusal, read_long, single};
 
 // The most files of a night.
 const MOST_FILES: usize = 64;
@@ -23,18 +23,7 @@ pub fn whole_pairs(list: &[u8]) -> usize
 fn begun_pairs(list: &[u8]) -> usize
     ensures { result ≡ begun_pairs list.now }
 {
-    let whole = whole_pairs(list);
-    if list.len() % PAIR_BYTES == 0 {
-        return whole;
-    }
-    whole + 1
-}
-
-// The sum of two numbers of 32 bits, which may have 33.
-fn sum_of(x: u32, y: u32) -> usize
-    ensures { result ≡ x + y }
-{
-    (x as usize) + (y as usize)
+    list.len().div_ceil(PAIR_BYTES)
 }
 
 // Where the file of pair `k` begins in the buffer.
@@ -45,15 +34,12 @@ pub fn offset_of(list: &[u8], k: usize) -> usize
     read_long(list, PAIR_BYTES * k) as usize
 }
 
-// Where it ends.
+// Where it ends: the sum of two numbers of 32 bits may have 33.
 pub fn end_of(list: &[u8], k: usize) -> usize
     requires { k < whole_pairs list.now }
     ensures { result ≡ pair_end list.now k }
 {
-    sum_of(
-        read_long(list, PAIR_BYTES * k),
-        read_long(list, PAIR_BYTES * k + 4),
-    )
+    read_long(list, PAIR_BYTES * k) as usize + read_long(list, PAIR_BYTES * k + 4) as usize
 }
 
 // Is pair `k` at fault? The pair before it ends at `last`.
@@ -61,31 +47,20 @@ fn bad_pair(files: &[u8], list: &[u8], k: usize, last: usize) -> bool
     requires { last ≡ last_end list.now k }
     ensures { result ≡ bad_pair files.now list.now k }
 {
-    if MOST_FILES <= k {
-        return true;
-    }
-    if whole_pairs(list) <= k {
-        return true;
-    }
-    if offset_of(list, k) < last {
-        return true;
-    }
-    files.len() < end_of(list, k)
+    MOST_FILES <= k
+        || whole_pairs(list) <= k
+        || offset_of(list, k) < last
+        || files.len() < end_of(list, k)
 }
 
 // Check 33. At most 65 pairs are looked at, however long the list is.
-pub fn check_pairs(files: &[u8], list: &[u8]) -> Failure
-    ensures { failure_meant result ≡ in_order (pair_checks files.now list.now) }
+pub fn check_pairs(files: &[u8], list: &[u8]) -> Result<(), Refusal>
+    ensures { run_meant result ≡ in_order (pair_checks files.now list.now) }
 {
-    let n = begun_pairs(list);
-    let mut last: usize = 0;
-    let mut k: usize = 0;
-    while k < n {
-        if bad_pair(files, list, k, last) {
-            return Failure::At(33, k as u16);
-        }
+    let mut last = 0;
+    for k in 0..begun_pairs(list) {
+        single(Check::Pair, k as u16, bad_pair(files, list, k, last))?;
         last = end_of(list, k);
-        k += 1;
     }
-    Failure::None
+    Ok(())
 }

@@ -1,18 +1,16 @@
 -- The rows of an agent's own list marked in a table in which every row was hidden: the table is that of what the agent sees. Assumes nothing.
 use Prim.Native.Nat.{ℕ, ◌+◌, ◌*◌, ◌-◌, ◌≤◌, ◌<◌}
 use mathlib.Core.Bool.{Bool, true, false}
-use mathlib.Core.Path.{◌≡◌, refl, sym, ap, ◌∙◌}
-use mathlib.Core.Logic.{⊎_elim}
+use mathlib.Core.Path.{◌≡◌, refl, sym, ◌∙◌}
 use mathlib.Core.List.{List}
 use native.Mathlib.Omega.{arith}
-use lib.ListN.{length, get_or, set, length-set}
+use lib.ListN.{length, get_or}
 use Rattle.case_file.specs.Seen.{view_code, SeenUpTo}
 use Rattle.definition.proofs.IndexHolds.{list_sees}
 use Rattle.definition.proofs.ListLaws.{at_among, among_at}
-use Rattle.definition.proofs.OrderedIndex.{sight_is, index_length, index_count, index_head, index_list, list_within, agents_few, of_some_agent, seer_observes}
-use Rattle.definition.proofs.Tests.{below_or_not, not_both}
+use Rattle.definition.proofs.OrderedIndex.{sight_is, index_length, index_count, index_head, index_list, list_within, of_some_agent, seer_observes}
+use Rattle.definition.proofs.Tests.{not_both}
 use Rattle.definition.specs.03-Lists.{begins}
-use Rattle.definition.specs.11-Layout.{log_part, field_in}
 use Rattle.definition.specs.12-Terms.{agents_end}
 use Rattle.definition.specs.15-Records.{Log, rows_in, row_action}
 use Rattle.definition.specs.16-Views.{seen_in}
@@ -20,29 +18,7 @@ use Rattle.definition.specs.35-Index.{index_of, rows_seen}
 use Rattle.definition.specs.48-Places.{OrderedLog, counts_of, place_of, start_of}
 use Rattle.observer_index.proofs.IndexTables.{begin_all}
 use Rattle.observer_index.proofs.RowTurns.{index_fits}
-use Rattle.observer_index.proofs.Tallying.{set_at}
 use Rattle.observer_index.specs.OwnList.{Hides, Listed, Marked}
-
--- The loop over the entries.
-pub marked_none : (rows index : List ℕ) (from : ℕ) (l : List ℕ) → Marked rows index from (from - from) l l
-marked_none rows index from l = record { long = refl; listed = λ j le to. absurd (omega arith); others = λ k out. refl }
-
-pub marked_more :
-    (rows index : List ℕ) (from j : ℕ) (old new : List ℕ) (k action : ℕ) → from ≤ j → Marked rows index from (j - from) old new → k ≡ get_or index j 0 → k < length new →
-    action ≡ field_in rows log_part k 0 → Marked rows index from (j + 1 - from) old (set new k action)
-marked_more rows index from j old new k action le m is there act =
-    record {
-      long = length-set new k action ∙ m.long;
-      listed =
-          λ i low to.
-          ⊎_elim (λ w. w.1 ∙ act ∙ sym (ap (λ (x : ℕ). field_in rows log_part x 0) w.0))
-          (λ w. w.1 ∙ ⊎_elim (λ l. m.listed i low (omega arith)) (λ up. let q : i ≡ j = omega arith in absurd (w.0 (ap (λ (x : ℕ). get_or index x 0) q ∙ sym is))) (below_or_not i j))
-          (set_at new 0 k action there (get_or index i 0));
-      others =
-          λ x out.
-          ⊎_elim (λ w. absurd (out j le (omega arith) (sym is ∙ sym w.0))) (λ w. w.1 ∙ m.others x (λ i low to q. out i low (omega arith) q))
-          (set_at new 0 k action there x);
-    }
 
 -- A table that begins with the index of a log, by position.
 module _ (g : Log) (o : OrderedLog g) (index : List ℕ) (same : begins (index_of g) index ≡ true) where
@@ -57,9 +33,6 @@ module _ (g : Log) (o : OrderedLog g) (index : List ℕ) (same : begins (index_o
 
   pub heads_there : 1 + 3 * get_or index 0 0 ≤ length index
   heads_there = omega (arith, agents_told, index_length g o, long)
-
-  pub agents_bound : get_or index 0 0 ≤ 4096
-  agents_bound = omega (arith, agents_told, agents_few g o, o.observers_few)
 
   -- Head i is of an agent that observes a row.
   pub record OwnHead (i : ℕ) : Type 0 where

@@ -1,3 +1,4 @@
+pub mod Entries
 pub mod Slots
 pub mod Heads
 pub mod Rows

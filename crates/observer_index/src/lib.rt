@@ -2,6 +2,7 @@
 #![tactic(auto)]
 
 mod building;
+mod entries;
 mod heads;
 mod log_rows;
 mod seeing;

@@ -14,13 +14,10 @@ fn mark_rows(rows: &[u8], index: &[u16], from: usize, len: usize, views: &mut [u
     requires { Listed rows.now index.now from len × (length views.old ≡ 1024) }
     ensures { Marked rows.now index.now from len views.old views.new }
 {
-    let end = from + len;
-    let mut j = from;
-    while j < end {
-        let k = index[j] as usize;
+    for entry in &index[from..from + len] {
+        let k = *entry as usize;
         let row = log_row_at(rows, k);
         views[k] = row.action;
-        j += 1;
     }
 }
 
@@ -30,8 +27,7 @@ pub fn see_listed(rows: &[u8], index: &[u16], agent: u16, views: &mut [u16; 1024
     ensures { (o : List ℕ) → OrderedLog (log_with rows.now o) → begins (index_of (log_with rows.now o)) index.now ≡ true → SeenUpTo (log_with rows.now o) agent (rows_in (log_with rows.now o)) views.old views.new }
 {
     let agents = index[0] as usize;
-    let mut i: usize = 0;
-    while i < agents {
+    for i in 0..agents {
         let place = 1 + 3 * i;
         if index[place] == agent {
             let from = index[place + 1] as usize;
@@ -39,6 +35,5 @@ pub fn see_listed(rows: &[u8], index: &[u16], agent: u16, views: &mut [u16; 1024
             mark_rows(rows, index, from, len, views);
             return;
         }
-        i += 1;
     }
 }

@@ -9,34 +9,32 @@ ghost use Rattle.definition.specs.47-Indexed.{AnsweredThrough};
 
 use crate::building::is_index_of;
 use crate::seeing::see_listed;
-use case_file::{HIDDEN, admit};
-use case_parts::{FORMULAS, LOG, OBSERVERS, agent_of, part};
+use case_file::{Case, HIDDEN, admit};
+use case_parts::{FORMULAS, agent_of, log_of, part};
 use checker::{Verdict, check_admitted};
-use words::Failure;
+use words::{Check, Refusal, single};
 
 // What follows the admission.
-fn check_with(file: &[u8], index: &[u16], room: &mut [u16]) -> Verdict
+fn check_with(file: &[u8], index: &[u16], room: &mut [u16]) -> Result<Verdict, Refusal>
     requires { admission file.now ≡ accepts tt }
     ensures { Reported (finding_through file.now index.now (length room.old)) room.old result room.new }
 {
-    let rows = part(file, LOG);
-    let observers = part(file, OBSERVERS);
-    if !is_index_of(rows, observers, index) {
-        return Verdict::Refused(30, 0);
-    }
+    let log = log_of(file);
+    single(Check::OtherIndex, 0, !is_index_of(&log, index))?;
     let mut views = [HIDDEN; 1024];
-    see_listed(rows, index, agent_of(file), &mut views);
-    let book = part(file, FORMULAS);
-    check_admitted(file, book, &views, room)
+    see_listed(log.rows, index, agent_of(file), &mut views);
+    let case = Case {
+        file,
+        book: part(file, FORMULAS),
+        views: &views,
+    };
+    check_admitted(&case, room)
 }
 
 // The verdict on any bytes, with any table as the index, and a room of any length. It is that of the check without an index wherever 30 does not come.
-pub fn check_through(file: &[u8], index: &[u16], room: &mut [u16]) -> Verdict
+pub fn check_through(file: &[u8], index: &[u16], room: &mut [u16]) -> Result<Verdict, Refusal>
     ensures { AnsweredThrough (λ v. v) file.now index.now room.old (verdict_meant result) room.new }
 {
-    let admission = admit(file);
-    match admission {
-        Failure::At(number, place) => Verdict::Refused(number, place),
-        Failure::None => check_with(file, index, room),
-    }
+    admit(file)?;
+    check_with(file, index, room)
 }

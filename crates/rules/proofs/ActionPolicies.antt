@@ -1,13 +1,13 @@
 -- What an action gives rise to, by the kind of its row: the conclusion that the agent may draw from it, and what it owes. Assumes nothing.
 use Prim.Native.Nat.{ℕ}
-use mathlib.Core.Path.{◌≡◌, refl, sym, ◌∙◌}
-use mathlib.Core.Bool.{cond}
+use mathlib.Core.Path.{◌≡◌, refl, sym, ap, ◌∙◌}
+use mathlib.Core.Bool.{Bool, true, false, cond}
+use Rattle.std.specs.Bool.{then_some}
 use mathlib.Core.Option.{Option, none, some}
 use mathlib.Core.List.{List}
 use lib.Dec.{eqb}
-use Rattle.definition.specs.01-Words.{absent}
 use Rattle.definition.specs.13-Formulas.{Formula, kind_of, predicate, owns, says, and, for_all, implies, after, communicates, creates, user_action, no_formula}
-use Rattle.definition.specs.14-Book.{row_at, tree_in, tree_of, book as trees}
+use Rattle.definition.specs.14-Book.{row_at, tree_in, book as trees}
 use Rattle.formula_rows.specs.Meanings.{row_meant}
 use Rattle.formula_rows.specs.declared.rows.Row as rows
 use Rattle.formula_book.proofs.Laws.{communicates_kind, creates_kind, user_action_kind}
@@ -18,15 +18,10 @@ use Rattle.case_file.proofs.LentCaseLaws.{numbered}
 use Rattle.definition.specs.21-Rules.{conclusion, owed}
 use Rattle.definition.specs.31-Outcome.{owes}
 use Rattle.case_file.specs.LentCase.{Lent, Numbered}
-use Rattle.rules.specs.Policies.{policy_meant, Tells, PolicyIs}
-use Rattle.rules.specs.declared.policies.Policy.{Policy}
-use Rattle.rules.specs.declared.policies.Policy.TheVariants.{Nothing}
+use Rattle.rules.specs.Policies.{policy_meant, PolicyIs, StandsFor}
+use Rattle.std.specs.Prelude as std
 use Rattle.rules.proofs.CitedFormulas.{named}
-use Rattle.rules.proofs.ComparedRows.{lower, read_shape, kind_is, predicate_tells, owns_tells, says_tells}
-
--- The policy is the one of the row, if `who` is the agent: what `of_agent` promises.
-abbrev pub OfAgent : Policy → (agent who : ℕ) → rows.Row → Type 0
-OfAgent p agent who r = (b : List ℕ) → Tells b (row_meant r) → PolicyIs b p (cond (eqb who agent) (some (tree_of (trees b) (row_meant r))) none)
+use Rattle.rules.proofs.ComparedRows.{lower, read_shape, kind_is}
 
 -- Actions of other kinds give nothing.
 no_more : (agent : ℕ) (f : Formula) → (kind_of f ≡ 8 → ⊥) → ((kind_of f ≡ 9 → ⊥) → conclusion agent f ≡ none) × ((kind_of f ≡ 10 → ⊥) → owed agent f ≡ none)
@@ -47,30 +42,30 @@ no_more a no_formula h = ((λ i. refl), (λ i. refl))
 module _ {b : List ℕ} {k : ℕ} (agent : ℕ) (r : rows.Row) (n : Numbered b k) (is : row_meant r ≡ row_at b k) where
   -- A communication gives "X says Y to Z" if `who` is the agent: Z for the conclusion, X for what is owed.
   pub communicated :
-      (gives : ℕ → Formula → Option Formula) (who : ℕ) (p : Policy) → ((f : Formula) → gives agent (communicates r.x f r.z) ≡ cond (eqb who agent) (some (says r.x f r.z)) none) →
-      r.kind ≡ 8 → OfAgent p agent who (record { kind = 2; code = 0; x = r.x; y = r.y; z = r.z }) → PolicyIs b p (gives agent (tree_in (trees b) k))
-  unfolding tree_of row_meant
+      (gives : ℕ → Formula → Option Formula) (who : ℕ) (p : std.Option rows.Row) → ((f : Formula) → gives agent (communicates r.x f r.z) ≡ cond (eqb who agent) (some (says r.x f r.z)) none) →
+      r.kind ≡ 8 → (Numbered b r.y → PolicyIs b p (cond (eqb who agent) (some (says r.x (tree_in (trees b) r.y) r.z)) none)) → PolicyIs b p (gives agent (tree_in (trees b) k))
+  unfolding row_meant
   communicated gives who p is_says e given =
       let t = communicates_kind (read_shape r n is) e in
-      rw (t.0, is_says (tree_in (trees b) r.y)) (given b (says_tells (lower n t.1) r.x r.z))
+      rw (t.0, is_says (tree_in (trees b) r.y)) (given (lower n t.1))
 
-  pub created : (p : Policy) → r.kind ≡ 9 → OfAgent p agent r.x (record { kind = 1; code = 0; x = r.x; y = r.y; z = absent }) → PolicyIs b p (conclusion agent (tree_in (trees b) k))
-  unfolding conclusion tree_of row_meant
-  created p e given = rw (creates_kind (read_shape r n is) e) (given b (owns_tells r.x r.y))
+  pub created : (p : std.Option rows.Row) → r.kind ≡ 9 → PolicyIs b p (cond (eqb r.x agent) (some (owns r.x r.y)) none) → PolicyIs b p (conclusion agent (tree_in (trees b) k))
+  unfolding conclusion row_meant
+  created p e given = rw (creates_kind (read_shape r n is) e) given
 
-  pub acted : (p : Policy) → r.kind ≡ 10 → OfAgent p agent r.x (record { kind = 0; code = r.code; x = r.x; y = r.y; z = r.z }) → PolicyIs b p (owed agent (tree_in (trees b) k))
-  unfolding owed tree_of row_meant
-  acted p e given = rw (user_action_kind (read_shape r n is) e) (given b (predicate_tells r.code r.x r.y r.z))
+  pub acted : (p : std.Option rows.Row) → r.kind ≡ 10 → PolicyIs b p (cond (eqb r.x agent) (some (predicate r.code r.x r.y r.z)) none) → PolicyIs b p (owed agent (tree_in (trees b) k))
+  unfolding owed row_meant
+  acted p e given = rw (user_action_kind (read_shape r n is) e) given
 
   -- The kind of the row is that of the tree.
   kind : (m : ℕ) → (r.kind ≡ m → ⊥) → kind_of (tree_in (trees b) k) ≡ m → ⊥
   kind m other e = other (kind_is r n is ∙ e)
 
-  pub concludes_nothing : (r.kind ≡ 8 → ⊥) → (r.kind ≡ 9 → ⊥) → PolicyIs b Nothing (conclusion agent (tree_in (trees b) k))
+  pub concludes_nothing : (r.kind ≡ 8 → ⊥) → (r.kind ≡ 9 → ⊥) → PolicyIs b std.None (conclusion agent (tree_in (trees b) k))
   unfolding policy_meant
   concludes_nothing h i = record { is = sym ((no_more agent _ (kind 8 h)).0 (kind 9 i)); told = tt }
 
-  pub owes_nothing : (r.kind ≡ 8 → ⊥) → (r.kind ≡ 10 → ⊥) → PolicyIs b Nothing (owed agent (tree_in (trees b) k))
+  pub owes_nothing : (r.kind ≡ 8 → ⊥) → (r.kind ≡ 10 → ⊥) → PolicyIs b std.None (owed agent (tree_in (trees b) k))
   unfolding policy_meant
   owes_nothing h i = record { is = sym ((no_more agent _ (kind 8 h)).1 (kind 10 i)); told = tt }
 
@@ -79,6 +74,12 @@ module _ {s b : List ℕ} (lent : Lent s b) {m : ℕ} (action : m ≡ action_of 
   pub action_numbered : Numbered b m
   action_numbered = rw action (numbered lent (audit_named s lent.admitted))
 
-  pub owes_told : {a : ℕ} {p : Policy} → a ≡ agent_of s → PolicyIs b p (owed a (tree_in (trees b) m)) → policy_meant (trees b) p ≡ owes (case_of s)
+  pub owes_told : {a : ℕ} {p : std.Option rows.Row} → a ≡ agent_of s → PolicyIs b p (owed a (tree_in (trees b) m)) → policy_meant (trees b) p ≡ owes (case_of s)
   unfolding owes case_of
   owes_told agent h = h.is ∙ (λ i. owed (agent i) (named lent action i))
+
+-- The policy of a row, if a test holds.
+pub given_if : {b : List ℕ} {r : rows.Row} {f : Formula} (t : Bool) → StandsFor b r f → PolicyIs b (then_some t r) (cond t (some f) none)
+unfolding policy_meant
+given_if true stands = record { is = ap some stands.is; told = stands.tells }
+given_if false stands = record { is = refl; told = tt }

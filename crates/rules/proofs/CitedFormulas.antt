@@ -15,7 +15,7 @@ use Rattle.definition.specs.11-Layout.{condition_part, obligation_part, label_pa
 use Rattle.definition.specs.15-Records.{formulas, condition_formula, obligation_mark, obligation_action, label_mark, label_formula, is_duty}
 use Rattle.definition.specs.17-Case.{reading, case_of}
 use Rattle.case_file.proofs.Laws.{label_named, obligation_named, condition_named}
-use Rattle.definition.specs.21-Rules.{first, is_that, suppose, condition_row, implies_intro, duty_intro, duty_by_obligation, duty_by_label}
+use Rattle.definition.specs.21-Rules.{first, is_that, suppose, condition_row, implies_intro, duty_intro, duty_by_obligation}
 use Rattle.case_file.specs.LentCase.{Lent, Numbered}
 use Rattle.case_file.proofs.LentCaseLaws.{lent_trees, numbered}
 use Rattle.rules.proofs.ComparedRows.{same_number}
@@ -44,10 +44,6 @@ module _ {s b : List ℕ} (lent : Lent s b) where
     pub introduced : {q : Bool} (f p : Formula) → q ≡ is_duty m && same f (after m (tree_in (trees b) n) p) → q ≡ duty_intro (case_of s) f k (p ∷ [])
     unfolding duty_intro first case_of
     introduced f p e = rw (← mark, ← named is) e
-
-    pub done_by_label : {q : Bool} (f p : Formula) → q ≡ is_duty m && same p (after m (tree_in (trees b) n) f) → q ≡ duty_by_label (case_of s) f k (p ∷ [])
-    unfolding duty_by_label first case_of
-    done_by_label f p e = rw (← mark, ← named is) e
 
   -- A label of another mark.
   module _ (k : ℕ) {m : ℕ} (mark : m ≡ label_mark s k) (other : m ≡ 0 → ⊥) where

@@ -1,12 +1,13 @@
--- Formulas of an admitted book compared by their rows: the row of each form that rules compare with tells its formula. Assumes nothing.
+-- Formulas of an admitted book compared by their rows: the row of each form that rules compare with stands for its formula. Assumes nothing.
 use Prim.Native.Nat.{ℕ, ◌+◌, ◌*◌, ◌≤◌, ◌<◌}
-use mathlib.Core.Path.{◌≡◌, sym, ap, ◌∙◌}
+use mathlib.Core.Path.{◌≡◌, refl, sym, ap, ◌∙◌}
+use mathlib.Core.Bool.{Bool}
 use mathlib.Core.List.{List}
 use native.Mathlib.Omega.{arith}
 use lib.ListN.{length}
 use lib.Dec.{eqb}
 use Rattle.definition.specs.01-Words.{absent}
-use Rattle.definition.specs.13-Formulas.{kind_of, same}
+use Rattle.definition.specs.13-Formulas.{Formula, kind_of, same, predicate, owns, says, and, implies, after}
 use Rattle.definition.specs.14-Book.{Row, row_at, book_rows, tree_in, tree_of, book as trees, same_row}
 use Rattle.formula_book.specs.GoodRows.{GoodRow}
 use Rattle.formula_rows.specs.Meanings.{row_meant}
@@ -14,7 +15,7 @@ use Rattle.formula_rows.specs.declared.rows.Row as rows
 use Rattle.formula_book.proofs.Laws.{Proper, admitted_row, good_inside, row_is, tree_row, row_same, number_same, predicate_proper, owns_proper, says_proper, and_proper, implies_proper, each_use_proper, once_proper}
 use Rattle.definition.proofs.Trees.{Shape}
 use Rattle.case_file.specs.LentCase.{Numbered}
-use Rattle.rules.specs.Policies.{Tells}
+use Rattle.rules.specs.Policies.{Tells, StandsFor}
 
 pub lower : {b : List ℕ} {j k : ℕ} → Numbered b k → j < k → Numbered b j
 lower n lt = record { book = n.book; below = let h = n.below in omega arith }
@@ -42,39 +43,46 @@ kind_is {b} {k} r n is = ap (λ (q : Row). q.kind) is ∙ (tree_row b k (good_ro
 pub tells : {b : List ℕ} (r : Row) → Proper (trees b) (book_rows b) r → Tells b r
 tells {b} r proper f m = sym (row_same b m.book f r m.below proper)
 
--- Formula f, by its row as it was read, compared with that of a row that tells.
-pub read_same :
-    {b : List ℕ} {f : ℕ} (own r : rows.Row) → Numbered b f → Tells b (row_meant r) → row_meant own ≡ row_at b f →
-    same_row (row_meant own) (row_meant r) ≡ same (tree_in (trees b) f) (tree_of (trees b) (row_meant r))
-read_same {b} {f} own r n t is = ap (λ (q : Row). same_row q (row_meant r)) is ∙ t f n
+-- Formula f, by its row as it was read, is the one that a row stands for just if the rows are equal.
+pub row_compared :
+    {b : List ℕ} {k : ℕ} {q : Bool} {f : Formula} (own r : rows.Row) → Numbered b k → StandsFor b r f → row_meant own ≡ row_at b k →
+    q ≡ same_row (row_meant own) (row_meant r) → q ≡ same (tree_in (trees b) k) f
+row_compared {b} {k} own r n t is e =
+    e ∙ ap (λ (q : Row). same_row q (row_meant r)) is ∙ t.tells k n ∙ ap (same (tree_in (trees b) k)) t.is
 
--- The rows that rules compare with, as the code makes them.
-pub predicate_tells : {b : List ℕ} (c x y z : ℕ) → Tells b (row_meant (record { kind = 0; code = c; x = x; y = y; z = z }))
-unfolding row_meant
-predicate_tells {b} c x y z = tells (record { kind = 0; code = c; x = x; y = y; z = z }) (predicate_proper (trees b) (book_rows b) c x y z)
+-- The rows that rules compare with stand for their formulas.
+module _ {b : List ℕ} {r : rows.Row} where
+  stands : {f : Formula} (q : Row) → Proper (trees b) (book_rows b) q → tree_of (trees b) q ≡ f → row_meant r ≡ q → StandsFor b r f
+  stands q proper is e = record { is = ap (tree_of (trees b)) e ∙ is; tells = rw e (tells q proper) }
 
-pub owns_tells : {b : List ℕ} (x y : ℕ) → Tells b (row_meant (record { kind = 1; code = 0; x = x; y = y; z = absent }))
-unfolding row_meant
-owns_tells {b} x y = tells (record { kind = 1; code = 0; x = x; y = y; z = absent }) (owns_proper (trees b) (book_rows b) x y)
+  module _ {x y : ℕ} where
+    pub predicate_stands : {c z : ℕ} → row_meant r ≡ record { kind = 0; code = c; x = x; y = y; z = z } → StandsFor b r (predicate c x y z)
+    unfolding tree_of
+    predicate_stands {c} {z} = stands _ (predicate_proper (trees b) (book_rows b) c x y z) refl
 
-pub says_tells : {b : List ℕ} {y : ℕ} → Numbered b y → (x z : ℕ) → Tells b (row_meant (record { kind = 2; code = 0; x = x; y = y; z = z }))
-unfolding row_meant
-says_tells {b} {y} n x z = tells (record { kind = 2; code = 0; x = x; y = y; z = z }) (says_proper (trees b) (book_rows b) x y z n.below)
+    pub owns_stands : row_meant r ≡ record { kind = 1; code = 0; x = x; y = y; z = absent } → StandsFor b r (owns x y)
+    unfolding tree_of
+    owns_stands = stands _ (owns_proper (trees b) (book_rows b) x y) refl
 
--- Two formulas of the book.
-module _ {b : List ℕ} {x y : ℕ} (n : Numbered b x) (m : Numbered b y) where
-  pub and_tells : Tells b (row_meant (record { kind = 3; code = 0; x = x; y = y; z = absent }))
-  unfolding row_meant
-  and_tells = tells (record { kind = 3; code = 0; x = x; y = y; z = absent }) (and_proper (trees b) (book_rows b) x y n.below m.below)
+    module _ (m : Numbered b y) where
+      pub says_stands : {z : ℕ} → row_meant r ≡ record { kind = 2; code = 0; x = x; y = y; z = z } → StandsFor b r (says x (tree_in (trees b) y) z)
+      unfolding tree_of
+      says_stands {z} = stands _ (says_proper (trees b) (book_rows b) x y z m.below) refl
 
-  pub implies_tells : Tells b (row_meant (record { kind = 5; code = 0; x = x; y = y; z = absent }))
-  unfolding row_meant
-  implies_tells = tells (record { kind = 5; code = 0; x = x; y = y; z = absent }) (implies_proper (trees b) (book_rows b) x y n.below m.below)
+      -- two formulas of the book
+      module _ (n : Numbered b x) where
+        pub and_stands : row_meant r ≡ record { kind = 3; code = 0; x = x; y = y; z = absent } → StandsFor b r (and (tree_in (trees b) x) (tree_in (trees b) y))
+        unfolding tree_of
+        and_stands = stands _ (and_proper (trees b) (book_rows b) x y n.below m.below) refl
 
-  pub each_use_tells : Tells b (row_meant (record { kind = 6; code = 0; x = x; y = y; z = absent }))
-  unfolding row_meant
-  each_use_tells = tells (record { kind = 6; code = 0; x = x; y = y; z = absent }) (each_use_proper (trees b) (book_rows b) x y n.below m.below)
+        pub implies_stands : row_meant r ≡ record { kind = 5; code = 0; x = x; y = y; z = absent } → StandsFor b r (implies (tree_in (trees b) x) (tree_in (trees b) y))
+        unfolding tree_of
+        implies_stands = stands _ (implies_proper (trees b) (book_rows b) x y n.below m.below) refl
 
-  pub once_tells : Tells b (row_meant (record { kind = 7; code = 0; x = x; y = y; z = absent }))
-  unfolding row_meant
-  once_tells = tells (record { kind = 7; code = 0; x = x; y = y; z = absent }) (once_proper (trees b) (book_rows b) x y n.below m.below)
+        pub each_use_stands : row_meant r ≡ record { kind = 6; code = 0; x = x; y = y; z = absent } → StandsFor b r (after 1 (tree_in (trees b) x) (tree_in (trees b) y))
+        unfolding tree_of
+        each_use_stands = stands _ (each_use_proper (trees b) (book_rows b) x y n.below m.below) refl
+
+        pub once_stands : row_meant r ≡ record { kind = 7; code = 0; x = x; y = y; z = absent } → StandsFor b r (after 2 (tree_in (trees b) x) (tree_in (trees b) y))
+        unfolding tree_of
+        once_stands = stands _ (once_proper (trees b) (book_rows b) x y n.below m.below) refl

@@ -1,8 +1,10 @@
 -- The rules that take a formula apart, at formulas of the book: by the kind of its row, which was read. Assumes nothing.
 use Prim.Native.Nat.{ℕ}
-use mathlib.Core.Path.{◌≡◌, sym, ap, ◌∙◌}
+use mathlib.Core.Path.{◌≡◌, refl, sym, ap, ◌∙◌}
 use mathlib.Core.Bool.{Bool, true, false, ◌&&◌, and-false}
 use mathlib.Core.List.{List, [], ◌∷◌}
+use lib.Dec.{eqb}
+use borrow.Author.Tests.{eqb-true, eqb-false}
 use Rattle.definition.proofs.Tests.{and_true, both_first, both_second}
 use Rattle.definition.specs.12-Terms.{Sort, class_of, is_parameter, is_instance}
 use Rattle.definition.specs.13-Formulas.{Formula, kind_of, says, and, for_all, implies, same, put, is_policy, first_part, second_part, source, target, sort_of}
@@ -17,6 +19,14 @@ use Rattle.definition.specs.21-Rules.{first, second, say, refine, and_left, and_
 use Rattle.case_file.specs.LentCase.{Numbered}
 use Rattle.rules.specs.Misfits.{RowTells}
 use Rattle.rules.proofs.ComparedRows.{lower, read_shape, kind_is}
+
+-- Equal numbers, or others.
+pub either : {P : Type 0} (a c : ℕ) → (a ≡ c → P) → ((a ≡ c → ⊥) → P) → P
+either {P} a c equal other = go (eqb a c) refl
+  where
+    go : (t : Bool) → eqb a c ≡ t → P
+    go true e = equal (eqb-true a c e)
+    go false e = other (eqb-false a c e)
 
 -- Formula k is made of the two formulas that its row r names, which are of the book too.
 pub record TwoParts (b : List ℕ) (k : ℕ) (r : rows.Row) (make : Formula → Formula → Formula) : Type 0 where
@@ -114,12 +124,8 @@ module _ {b : List ℕ} {k : ℕ} (r : rows.Row) (n : Numbered b k) (is : row_me
   no_premise other c f a = rw (no_implies r n is other _ _)
 
   module _ {j : ℕ} (o : rows.Row) (m : Numbered b j) (own : row_meant o ≡ row_at b j) where
-    pub not_refined : (o.kind ≡ 2 → ⊥) → (c : Case) (a : ℕ) → false ≡ refine c (tree_in (trees b) j) a (tree_in (trees b) k ∷ g ∷ [])
-    unfolding refine
-    not_refined other c a = rw (no_says o m own other _ _ _, and-false)
-
-    -- The first premise and the formula are of the right kinds, and the answers q and t to the two comparisons that are left.
-    module _ (s : List ℕ) {agent : ℕ} (e : r.kind ≡ 5) (h : o.kind ≡ 2) (agent_is : agent ≡ agent_of s) where
+    -- The first premise is of the right kind, and q and t are the answers to the two comparisons that are left.
+    module _ (s : List ℕ) {agent : ℕ} (e : r.kind ≡ 5) (agent_is : agent ≡ agent_of s) where
       refine_is :
           (a : ℕ) → refine (case_of s) (tree_in (trees b) j) a (tree_in (trees b) k ∷ g ∷ [])
           ≡ same g (says agent (tree_in (trees b) r.x) o.z) && same (tree_in (trees b) j) (says agent (tree_in (trees b) r.y) o.z)
@@ -128,10 +134,12 @@ module _ {b : List ℕ} {k : ℕ} (r : rows.Row) (n : Numbered b k) (is : row_me
           let t = (implies_parts r n is e).tree in
           let one : first_part (tree_in (trees b) k) ≡ tree_in (trees b) r.x = ap first_part t in
           let two : second_part (tree_in (trees b) k) ≡ tree_in (trees b) r.y = ap second_part t in
-          let to : target (tree_in (trees b) j) ≡ o.z = ap target (says_tree o m own h) in
           let whole : same (tree_in (trees b) k) (implies (tree_in (trees b) r.x) (tree_in (trees b) r.y)) ≡ true =
           ap (λ f. same f (implies (tree_in (trees b) r.x) (tree_in (trees b) r.y))) t ∙ same_refl _ in
-          rw (one, two, to, agent_is, whole)
+          rw (one, two, agent_is, whole)
+          (either o.kind 2
+          (λ h. let to : target (tree_in (trees b) j) ≡ o.z = ap target (says_tree o m own h) in rw to)
+          (λ other. simp (no_says o m own other, and-false)))
 
       pub refined :
           {q t : Bool} → q ≡ same g (says agent (tree_in (trees b) r.x) o.z) → q ≡ true →

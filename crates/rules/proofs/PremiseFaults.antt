@@ -1,19 +1,19 @@
 -- Checks 24 and 25: the premises looked at one by one, each by its row. Assumes nothing.
-use Prim.Native.Nat.{ℕ, ◌+◌, ◌≤◌, ◌<◌}
-use mathlib.Core.Path.{◌≡◌, sym, ap, ◌∙◌}
-use mathlib.Core.Bool.{Bool, true, false, ◌||◌}
-use mathlib.Core.Logic.{⊎_elim}
-use native.Mathlib.Nat.{eq-or-lt_of_le}
+use Prim.Native.Nat.{ℕ, zero, suc, ◌+◌}
+use mathlib.Core.Path.{◌≡◌, refl, sym, ap, ◌∙◌}
+use mathlib.Core.Bool.{Bool, true, ◌||◌}
 use native.Mathlib.Omega.{arith}
-use lib.ListN.{get_or}
 use lib.Dec.{eqb}
 use borrow.Author.Tests.{eqb-true, eq-eqb, ne_eqb}
-use Rattle.definition.proofs.RangeLaws.{any_some, any_none, listed_length, listed_at}
-use Rattle.definition.specs.02-Ranges.{listed}
+use Rattle.std.specs.List.{list_any, range_with_len}
+use Rattle.definition.proofs.RangeLaws.{any_agrees, listed_length, listed_at}
+use Rattle.definition.specs.02-Ranges.{any, listed}
 use Rattle.definition.specs.13-Formulas.{Formula, no_formula, kind_of, source, target}
-use Rattle.definition.specs.21-Rules.{Asked, Asks, any_faulty}
+use Rattle.definition.specs.21-Rules.{Asked, Asks, has_party, any_faulty}
 use Rattle.formula_rows.specs.declared.rows.Row as rows
-use Rattle.rules.specs.Misfits.{RowTells}
+use Rattle.rules.specs.Misfits.{asked_meant, RowTells}
+use Rattle.rules.specs.declared.fit.Asked as asked
+use Rattle.rules.specs.declared.fit.Asked.TheVariants.{Anything, SaysToAgent, AgentSays, AgentOwns, And, ForAll, Implies, Duty}
 
 -- The parties of a row of the right kind.
 module _ {r : rows.Row} {f : Formula} (told : RowTells r f) where
@@ -29,6 +29,18 @@ module _ {r : rows.Row} {f : Formula} (told : RowTells r f) where
   pub target_is : (agent : ℕ) → eqb (kind_of f) 2 ≡ true → eqb r.z agent ≡ eqb (target f) agent
   target_is agent e = ap (λ x. eqb x agent) (told.target (of_kind 2 e))
 
+-- Of the others no party is asked.
+pub no_party : (agent : ℕ) (f : Formula) (a : asked.Asked) → (a ≡ SaysToAgent → ⊥) → (a ≡ AgentSays → ⊥) → (a ≡ AgentOwns → ⊥) → true ≡ has_party agent (asked_meant a) f
+unfolding has_party asked_meant
+no_party agent f SaysToAgent x y z = absurd (x refl)
+no_party agent f AgentSays x y z = absurd (y refl)
+no_party agent f AgentOwns x y z = absurd (z refl)
+no_party agent f Anything x y z = refl
+no_party agent f And x y z = refl
+no_party agent f ForAll x y z = refl
+no_party agent f Implies x y z = refl
+no_party agent f Duty x y z = refl
+
 -- Kind 6 or 7, tried in that order.
 module _ {k n : ℕ} (is : k ≡ n) where
   pub duty_first : k ≡ 6 → eqb k 6 ≡ eqb n 6 || eqb n 7
@@ -37,24 +49,16 @@ module _ {k n : ℕ} (is : k ≡ n) where
   pub duty_second : (k ≡ 6 → ⊥) → eqb k 7 ≡ eqb n 6 || eqb n 7
   duty_second other = rw (ne_eqb n 6 (λ e. other (is ∙ e)), is)
 
--- A walk over premises that ends at the first that has the fault; t are the formulas of the premise entries.
-module _ (fault : Asked → Formula → Bool) (asks : Asks) (t : ℕ → Formula) (from : ℕ) where
-  -- The premises before i have no fault.
-  abbrev pub NoneBefore : ℕ → Type 0
-  NoneBefore i = (j : ℕ) → j < i → fault (asks j) (t (from + j)) ≡ false
+-- The premises by their numbers; t are the formulas of the premise entries.
+module _ (fault : Asked → Formula → Bool) (asks : Asks) (t : ℕ → Formula) (from len : ℕ) where
+  pub faulty_is : any (λ i. fault (asks i) (t (from + i))) len 0 ≡ any_faulty fault asks (listed t len from)
+  unfolding any_faulty
+  faulty_is =
+      rw (listed_length t len from)
+      (any_agrees _ _ len 0 (λ j above below. ap (fault (asks j)) (sym (listed_at t no_formula len from j (omega arith)))))
 
-  pub none_more : {i : ℕ} → NoneBefore i → fault (asks i) (t (from + i)) ≡ false → NoneBefore (i + 1)
-  none_more {i} low here j lt = let le : j ≤ i = omega arith in ⊎_elim (λ e. rw e here) (low j) (eq-or-lt_of_le le)
-
-  module _ (len : ℕ) where
-    premise_at : (j : ℕ) → j < len → get_or (listed t len from) j no_formula ≡ t (from + j)
-    premise_at j lt = listed_at t no_formula len from j lt
-
-    pub one_faulty : (i : ℕ) → i < len → fault (asks i) (t (from + i)) ≡ true → true ≡ any_faulty fault asks (listed t len from)
-    unfolding any_faulty
-    one_faulty i lt e = sym (any_some _ _ 0 i (omega arith) (omega (arith, listed_length t len from)) (ap (fault (asks i)) (premise_at i lt) ∙ e))
-
-    pub none_faulty : NoneBefore len → false ≡ any_faulty fault asks (listed t len from)
-    unfolding any_faulty
-    none_faulty low =
-        sym (any_none _ _ 0 (λ j above below. let lt : j < len = omega (arith, below, listed_length t len from) in ap (fault (asks j)) (premise_at j lt) ∙ low j lt))
+-- The test of one of the numbers from i on, as a range walks them.
+pub any_in_range : (p : ℕ → Bool) (n i : ℕ) → list_any p (range_with_len i n) ≡ any p n i
+unfolding any
+any_in_range p zero i = refl
+any_in_range p (suc n) i = rw (any_in_range p n (i + 1))

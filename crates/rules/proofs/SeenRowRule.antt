@@ -18,7 +18,8 @@ use Rattle.case_file.proofs.Laws.{shown_named}
 use Rattle.definition.specs.21-Rules.{is_that, conclusion, row_conclusion, seen_row}
 use Rattle.case_file.specs.LentCase.{CaseLent, Numbered}
 use Rattle.rules.specs.Policies.{policy_meant, PolicyIs}
-use Rattle.rules.specs.declared.policies.Policy.{Policy}
+use Rattle.std.specs.Prelude as std
+use Rattle.formula_rows.specs.declared.rows.Row as rows
 use Rattle.case_file.proofs.LentCaseLaws.{parted, rows_few, numbered}
 use Rattle.rules.proofs.CitedFormulas.{named}
 
@@ -42,7 +43,7 @@ module _ {s b v : List ℕ} (case : CaseLent s b v) (k : ℕ) (inside : k < rows
     shown_numbered = numbered case.lent (shown_named s case.lent.admitted k n inside (row_view (Shows n) is))
 
     -- The conclusion, as a policy.
-    module _ {agent : ℕ} (agent_is : agent ≡ agent_of s) (p : Policy) (given : PolicyIs b p (conclusion agent (tree_in (trees b) n))) (f : Formula) where
+    module _ {agent : ℕ} (agent_is : agent ≡ agent_of s) (p : std.Option rows.Row) (given : PolicyIs b p (conclusion agent (tree_in (trees b) n))) (f : Formula) where
       pub seen_policy : seen_row (case_of s) f k [] ≡ is_that f (policy_meant (trees b) p)
       unfolding view_meant row_conclusion
       seen_policy =

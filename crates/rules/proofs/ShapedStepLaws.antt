@@ -1,14 +1,15 @@
 -- A step that checks 12 to 16 have let pass: its formula and its premises are there, and its rule's test is that of the definition. Assumes nothing.
 use Prim.Native.Nat.{ℕ, zero, suc, ◌+◌, ◌≤◌, ◌<◌}
-use mathlib.Core.Path.{◌≡◌, refl, sym, ap, ◌∙◌}
+use mathlib.Core.Path.{◌≡◌, refl, sym, ap, ap₂, ◌∙◌}
 use mathlib.Core.Bool.{Bool, true, false, not, ◌&&◌}
-use mathlib.Core.Logic.{◌⊎◌, inr}
+use mathlib.Core.Logic.{⊎_elim}
 use mathlib.Core.List.{List, [], ◌∷◌, map}
 use native.Mathlib.Omega.{arith}
 use borrow.Author.Tests.{ltb-false, ne_eqb, not-true, not-false}
-use Rattle.definition.specs.02-Ranges.{any, listed}
-use Rattle.definition.specs.04-Checks.{Checked, accepts, refuses, single, in_order}
-use Rattle.definition.proofs.CheckLaws.{goes_on, stops, skip_before, hold_all}
+use Rattle.std.specs.Prelude.{Ok, Err}
+use Rattle.definition.specs.02-Ranges.{listed}
+use Rattle.definition.specs.04-Checks.{Checked, accepts, ◌>>◌, try, single, in_order}
+use Rattle.definition.proofs.CheckLaws.{then_goes_on, then_accepts, then_refuses, try_holds, never_both, hold_all}
 use Rattle.definition.proofs.MisfitLaws.{fit_checks_lem}
 use Rattle.definition.proofs.StepLaws.{span_fault, well_shaped}
 use Rattle.definition.specs.13-Formulas.{is_policy, data_variable, has}
@@ -18,18 +19,22 @@ use Rattle.definition.specs.15-Records.{formulas, step_rule, step_formula, step_
 use Rattle.definition.specs.17-Case.{Case, case_of}
 use Rattle.case_file.proofs.Laws.{formula_named}
 use Rattle.definition.proofs.Spans.{span_holds}
-use Rattle.definition.specs.21-Rules.{first, owner, admits_parameter, admits_term, is_other_kind, is_other_party, any_faulty, for_all_intro, for_all_elim, other_premise, other_formula, no_instance, rule, rules, rule_at}
+use Rattle.definition.specs.21-Rules.{Names, first, owner, admits_parameter, admits_term, is_other_kind, is_other_party, any_faulty, for_all_intro, for_all_elim, other_premise, other_formula, no_instance, rule, rules, rule_at}
 use Rattle.definition.specs.22-Steps.{rule_of, premises_of, misshapen, stray_variable, premise_formulas, wrong_kind, wrong_party, wrong_instance, misfit, misfit_checks, fit_checks}
 use Rattle.case_file.specs.LentCase.{Lent, Numbered}
 use Rattle.case_parts.specs.Records.{StepFields}
 use Rattle.case_parts.specs.ShapedSteps.{CitedEntry, ShapedStep}
-use Rattle.formula_book.specs.DataAnswers.{stray, clear, stray_or}
-use Rattle.rules.specs.PremiseFormulas.{PremiseThere, PremisesThere, premise_trees, OneOfThree, Argued, Premised}
+use Rattle.formula_book.specs.DataAnswers.{stray_or, by_stray}
+use Rattle.rules.specs.Misfits.{fit_run}
+use Rattle.rules.specs.PremiseFormulas.{PremiseThere, PremisesThere, premise_trees}
 use Rattle.case_parts.specs.declared.records.Step.{Step}
 use Rattle.case_file.proofs.LentCaseLaws.{parted, steps_few, numbered}
 use Rattle.rules.proofs.CitedFormulas.{named}
-use Rattle.formula_book.proofs.Laws.{stray_is, clear_is}
-use Rattle.rules.proofs.RuleNumbers.{first_three, some_premise, of_two, of_one, without_premise, no_instance_lem}
+use Rattle.words.specs.declared.runs.Refusal.{Refusal}
+use Rattle.words.specs.Meanings.{run_meant}
+use Rattle.words.proofs.CheckRuns.{checks_stop, checks_go_on}
+use Rattle.rules.proofs.RuleNumbers.{EntryIn, entry_in, some_premise, no_instance_lem}
+use Rattle.rules.proofs.StrayRuns.{stray_run}
 
 map_listed : {A B : Type 0} (f : A → B) (g : ℕ → A) (n i : ℕ) → map f (listed g n i) ≡ listed (λ j. f (g j)) n i
 unfolding listed
@@ -116,49 +121,53 @@ module _ {s b : List ℕ} {k : ℕ} (lent : Lent s b) (st : ShapedStep s k) {t :
   unfolding misfit case_of
   fits_is = rw (rule_is, named lent is.formula, is.argument, premises_are) (not_not _)
 
-  module _ {q : Bool} where
-    -- no premise, one premise, two
-    pub fits_none : t.len ≡ 0 → q ≡ (rule_at t.rule).fits (case_of s) (tree_in (trees b) t.formula) t.argument [] → q ≡ not (misfit (case_of s) k)
+  -- What a step of rule r cites is there, by what the rule's argument names.
+  pub cited : (n : Names) (r : ℕ) → t.rule ≡ r → (rule_at r).names ≡ n → EntryIn s n t.argument
+  cited n r e names = entry_in s t.argument n (rw (← names, ← e) cites)
+
+  -- The premises of a rule that has them.
+  pub first_premise : 2 < t.rule → PremiseThere s t.from
+  first_premise above = premises_there t.from (omega arith) (let some = some_premise t.rule above rule_number in let least = least_premises in omega arith)
+
+  pub second_premise : (r : ℕ) → t.rule ≡ r → (rule_at r).least ≡ 2 → PremiseThere s (t.from + 1)
+  second_premise r e two = premises_there (t.from + 1) (omega arith) (let least : 2 ≤ t.len = rw (← two, ← e) least_premises in omega arith)
+
+  -- The answer q of the test of rule r, with the number of premises that the rule has.
+  module _ (r : ℕ) (e : t.rule ≡ r) where
+    length_is : (n : ℕ) → (rule_at r).least ≡ n → (rule_at r).most ≡ n → t.len ≡ n
+    length_is n least most =
+        let low : n ≤ t.len = rw (← least, ← e) least_premises in
+        let high : t.len ≤ n = rw (← most, ← e) most_premises in
+        omega arith
+
+    pub fits_none : {q : Bool} → (rule_at r).most ≡ 0 → q ≡ (rule_at r).fits (case_of s) (tree_in (trees b) t.formula) t.argument [] → q ≡ not (misfit (case_of s) k)
     unfolding premise_trees listed
-    fits_none len e = e ∙ (rw len at fits_is)
+    fits_none most h =
+        let len : t.len ≡ 0 = (let high : t.len ≤ 0 = rw (← most, ← e) most_premises in omega arith) in
+        h ∙ (rw (e, len) at fits_is)
 
-    pub fits_one :
-        {p : ℕ} → t.len ≡ 1 → p ≡ step_formula s (premise_step s t.from) →
-        q ≡ (rule_at t.rule).fits (case_of s) (tree_in (trees b) t.formula) t.argument (tree_in (trees b) p ∷ []) → q ≡ not (misfit (case_of s) k)
-    unfolding premise_trees listed
-    fits_one len first e = e ∙ rw (named lent first) (rw len at fits_is)
+    module _ {p : ℕ} (first : p ≡ step_formula s (premise_step s t.from)) where
+      pub fits_one :
+          {q : Bool} → (rule_at r).least ≡ 1 → (rule_at r).most ≡ 1 →
+          q ≡ (rule_at r).fits (case_of s) (tree_in (trees b) t.formula) t.argument (tree_in (trees b) p ∷ []) → q ≡ not (misfit (case_of s) k)
+      unfolding premise_trees listed
+      fits_one least most h = h ∙ rw (named lent first) (rw (e, length_is 1 least most) at fits_is)
 
-    pub fits_two :
-        {p r : ℕ} → t.len ≡ 2 → p ≡ step_formula s (premise_step s t.from) → r ≡ step_formula s (premise_step s (t.from + 1)) →
-        q ≡ (rule_at t.rule).fits (case_of s) (tree_in (trees b) t.formula) t.argument (tree_in (trees b) p ∷ tree_in (trees b) r ∷ []) →
-        q ≡ not (misfit (case_of s) k)
-    unfolding premise_trees listed
-    fits_two len first second e = e ∙ rw (named lent first, named lent second) (rw len at fits_is)
-
-  -- The premises of a rule that has one or two.
-  pub first_premise : Premised t.rule → PremiseThere s t.from
-  first_premise h = premises_there t.from (omega arith) (let some = some_premise least_premises most_premises h in omega arith)
-
-  pub second_premise : t.len ≡ 2 → PremiseThere s (t.from + 1)
-  second_premise len = premises_there (t.from + 1) (omega arith) (omega arith)
-
-  pub by_two : Premised t.rule → t.len ≡ 2 → OneOfThree t.rule 4 6 10
-  by_two = of_two least_premises most_premises
-
-  pub by_one : Premised t.rule → (t.len ≡ 2 → ⊥) → (OneOfThree t.rule 3 7 8 ⊎ Argued t.rule) × (t.len ≡ 1)
-  by_one = of_one least_premises most_premises
-
-  pub by_none : OneOfThree t.rule 0 1 2 → t.len ≡ 0
-  by_none = without_premise least_premises most_premises
+      pub fits_two :
+          {q : Bool} {g : ℕ} → (rule_at r).least ≡ 2 → (rule_at r).most ≡ 2 → g ≡ step_formula s (premise_step s (t.from + 1)) →
+          q ≡ (rule_at r).fits (case_of s) (tree_in (trees b) t.formula) t.argument (tree_in (trees b) p ∷ tree_in (trees b) g ∷ []) →
+          q ≡ not (misfit (case_of s) k)
+      unfolding premise_trees listed
+      fits_two least most second h = h ∙ rw (named lent first, named lent second) (rw (e, length_is 2 least most) at fits_is)
 
   -- The tests of 24, 25 and 26, on what was read.
-  pub kind_is : any_faulty is_other_kind (rule_at t.rule).asks (premise_trees s t.from t.len) ≡ wrong_kind (case_of s) k
+  pub kind_is : {r : ℕ} → t.rule ≡ r → any_faulty is_other_kind (rule_at r).asks (premise_trees s t.from t.len) ≡ wrong_kind (case_of s) k
   unfolding wrong_kind
-  kind_is = rw (rule_is, premises_are)
+  kind_is e = rw (← e, rule_is, premises_are)
 
-  pub party_is : {agent : ℕ} → agent ≡ agent_of s → any_faulty (is_other_party agent) (rule_at t.rule).asks (premise_trees s t.from t.len) ≡ wrong_party (case_of s) k
+  pub party_is : {r agent : ℕ} → t.rule ≡ r → agent ≡ agent_of s → any_faulty (is_other_party agent) (rule_at r).asks (premise_trees s t.from t.len) ≡ wrong_party (case_of s) k
   unfolding wrong_party case_of
-  party_is agent = rw (agent, rule_is, premises_are)
+  party_is e agent = rw (← e, agent, rule_is, premises_are)
 
   instance_is :
       (rule_at t.rule).other_instance (case_of s) (tree_in (trees b) t.formula) t.argument (premise_trees s t.from t.len) ≡ wrong_instance (case_of s) k
@@ -172,14 +181,13 @@ module _ {s b : List ℕ} {k : ℕ} (lent : Lent s b) (st : ShapedStep s k) {t :
   pub no_other_instance : (t.rule ≡ 14 → ⊥) → (t.rule ≡ 15 → ⊥) → wrong_instance (case_of s) k ≡ false
   no_other_instance a b = none_other (no_instance_lem t.rule rule_number a b)
 
-  -- Check 27 is of rule 5 alone.
-  pub not_owner : {x : Checked (Unit {0})} → (t.rule ≡ 5 → ⊥) → x ≡ in_order (misfit_checks (case_of s) k) → x ≡ in_order (fit_checks (case_of s) k)
-  unfolding fit_checks stray_variable case_of
-  not_owner other e = e ∙ sym (goes_on _ _ (rw (ne_eqb (step_rule s k) 5 (λ five. other (is.rule ∙ five)))))
+  -- Check 27, and whether the rule fits: the check is of rule 5 alone.
+  pub other_fits : {q : Bool} → (t.rule ≡ 5 → ⊥) → q ≡ not (misfit (case_of s) k) → run_meant (Ok q) ≡ fit_run (case_of s) k
+  unfolding fit_run stray_variable case_of run_meant
+  other_fits other e = ap accepts e ∙ then_goes_on (sym (try_holds (single 27 _ _) (rw (ne_eqb (step_rule s k) 5 (λ five. other (is.rule ∙ five))))))
 
-  -- The answer of rule 5: a row to tell, or whether it fits.
   module _ (five : t.rule ≡ 5) where
-    pub owner_fits : owner (case_of s) (tree_in (trees b) t.formula) t.argument (premise_trees s t.from t.len) ≡ not (misfit (case_of s) k)
+    owner_fits : owner (case_of s) (tree_in (trees b) t.formula) t.argument (premise_trees s t.from t.len) ≡ not (misfit (case_of s) k)
     unfolding rule_at rules rule
     owner_fits = rw five at fits_is
 
@@ -191,32 +199,10 @@ module _ {s b : List ℕ} {k : ℕ} (lent : Lent s b) (st : ShapedStep s k) {t :
     unfolding case_of
     place_is = rw (is.formula, lent.booked.is)
 
-    pub refused_27 : {p : ℕ} (q : Bool) → stray p ≡ stray_or b t.formula q → refuses 27 p ≡ in_order (fit_checks (case_of s) k)
-    unfolding fit_checks
-    refused_27 q e =
-        let h = stray_is b t.formula q e in
-        sym (stops _ _ 27 _ (refl, sym (h.1 ∙ place_is), sym variable_is ∙ h.0))
-
-    pub judged_27 : (q : Bool) {r : Bool} {x : Checked (Unit {0})} → clear r ≡ stray_or b t.formula q → x ≡ in_order (misfit_checks (case_of s) k) → x ≡ in_order (fit_checks (case_of s) k)
-    unfolding fit_checks
-    judged_27 q e h = h ∙ sym (goes_on _ _ (sym variable_is ∙ (clear_is b t.formula q e).0))
-
-  -- A rule without premises: check 18 alone, from the answer q of the test.
-  pub refused_none :
-      (r : ℕ) → t.rule ≡ r → OneOfThree r 0 1 2 → (q : Bool) {x : Checked (Unit {0})} → q ≡ (rule_at r).fits (case_of s) (tree_in (trees b) t.formula) t.argument [] →
-      x ≡ in_order (single 18 k (not q) ∷ []) → x ≡ in_order (fit_checks (case_of s) k)
-  unfolding misfit_checks premise_trees listed any any_faulty
-  refused_none r e which q fits h =
-      let len = by_none (rw e which) in
-      let few = first_three which in
-      let kind : wrong_kind (case_of s) k ≡ false = sym (rw len at kind_is) in
-      let party : wrong_party (case_of s) k ≡ false = sym (rw len at (party_is refl)) in
-      let inst : wrong_instance (case_of s) k ≡ false = no_other_instance (λ z. omega arith) (λ z. omega arith) in
-      let test : q ≡ (rule_at t.rule).fits (case_of s) (tree_in (trees b) t.formula) t.argument [] = rw e fits in
-      let fault : not q ≡ misfit (case_of s) k = ap not (fits_none len test) ∙ sym (not_not (misfit (case_of s) k)) in
-      not_owner (λ five. omega arith)
-      (h ∙ ap (λ b. in_order (single 18 k b ∷ [])) fault
-      ∙ sym (skip_before (single 24 k _ ∷ single 25 k _ ∷ single 26 k _ ∷ []) (single 18 k _ ∷ []) (kind, (party, (inst, tt)))))
+    pub owner_run : {x : Checked Bool} → x ≡ by_stray (stray_or b t.formula (owner (case_of s) (tree_in (trees b) t.formula) t.argument (premise_trees s t.from t.len))) → x ≡ fit_run (case_of s) k
+    unfolding fit_run
+    owner_run e = e ∙ ap (λ q. by_stray (stray_or b t.formula q)) owner_fits ∙ stray_run b t.formula _
+        ∙ ap₂ (λ p v. ◌>>◌ (try (single 27 p v)) (accepts (not (misfit (case_of s) k)))) place_is variable_is
 
   -- A step of rule 14 or 15 that does not fit, though its argument is admitted: the instance is another.
   module _ (misfits : misfit (case_of s) k ≡ true) where
@@ -230,37 +216,40 @@ module _ {s b : List ℕ} {k : ℕ} (lent : Lent s b) (st : ShapedStep s k) {t :
     pub other_formula_lem : {p : ℕ} → t.rule ≡ 15 → p ≡ step_formula s (premise_step s t.from) → admits_term t.argument (tree_in (trees b) p) ≡ wrong_instance (case_of s) k
     unfolding rule_at rules rule other_formula for_all_elim first premise_trees listed
     other_formula_lem e premise =
-        let argued : Argued t.rule = inr (inr (inr e)) in
-        let most : t.len ≤ 1 = rw e at most_premises in
-        let len : t.len ≡ 1 = (by_one (inr (inr argued)) (λ two. omega arith)).1 in
+        let len : t.len ≡ 1 = length_is 15 e 1 refl refl in
         rw (named lent premise) (admitted_other _ _ (rw (e, len) at unfit) ∙ (rw (e, len) at instance_is))
 
   -- The step's number fits 16 bits.
   pub place_few : k < 2048
   place_few = omega (arith, st.inside, steps_few s (parted lent))
 
--- What is answered of a step by whether it fits, q; and the number of one that does not, from the answers of the tests.
+-- What is answered of a step by whether it fits.
 module _ (c : Case) (k : ℕ) where
-  pub fitting : {q : Bool} → q ≡ not (misfit c k) → q ≡ true → accepts tt ≡ in_order (fit_checks c k)
-  fitting e taken = sym (hold_all _ ((fit_checks_lem c k).1 (not-true _ (sym e ∙ taken))))
+  -- check 27 refuses
+  pub fit_stops : (e : Refusal) → run_meant {A = Bool} (Err e) ≡ fit_run c k → run_meant {A = Unit {0}} (Err e) ≡ in_order (fit_checks c k)
+  unfolding fit_checks fit_run run_meant
+  fit_stops e h = ⊎_elim (λ a. checks_stop e _ _ (sym a)) (λ w. absurd (never_both w.1)) (then_refuses (try (single 27 (c.step k).stray (stray_variable c k))) _ _ _ (sym h))
 
-  pub unfitting : {q : Bool} → q ≡ not (misfit c k) → q ≡ false → misfit c k ≡ true
-  unfitting e left = not-false _ (sym e ∙ left)
+  -- it does not
+  module _ (q : Bool) (h : run_meant (Ok q) ≡ fit_run c k) where
+    both : ((x : Unit {0}) × (try (single 27 (c.step k).stray (stray_variable c k)) ≡ accepts x)) × (accepts (not (misfit c k)) ≡ accepts q)
+    unfolding fit_run run_meant
+    both = then_accepts (try (single 27 (c.step k).stray (stray_variable c k))) _ q (sym h)
 
-  pub is_24 : wrong_kind c k ≡ true → refuses 24 k ≡ in_order (misfit_checks c k)
-  unfolding misfit_checks
-  is_24 e = sym (stops _ _ 24 k (refl, refl, e))
+    answer_is : not (misfit c k) ≡ q
+    answer_is = let e = both.1 in cc
 
-  module _ (kind : wrong_kind c k ≡ false) where
-    pub is_25 : wrong_party c k ≡ true → refuses 25 k ≡ in_order (misfit_checks c k)
-    unfolding misfit_checks
-    is_25 e = sym (goes_on _ _ kind ∙ stops _ _ 25 k (refl, refl, e))
+    pub fitting : q ≡ true → run_meant (Ok tt) ≡ in_order (fit_checks c k)
+    unfolding run_meant
+    fitting taken = sym (hold_all _ ((fit_checks_lem c k).1 (not-true _ (answer_is ∙ taken))))
 
-    module _ (party : wrong_party c k ≡ false) where
-      pub is_26 : wrong_instance c k ≡ true → refuses 26 k ≡ in_order (misfit_checks c k)
-      unfolding misfit_checks
-      is_26 e = sym (goes_on _ _ kind ∙ goes_on _ _ party ∙ stops _ _ 26 k (refl, refl, e))
+    pub unfitting : q ≡ false → misfit c k ≡ true
+    unfitting left = not-false _ (answer_is ∙ left)
 
-      pub is_18 : wrong_instance c k ≡ false → misfit c k ≡ true → refuses 18 k ≡ in_order (misfit_checks c k)
-      unfolding misfit_checks
-      is_18 e misfits = sym (goes_on _ _ kind ∙ goes_on _ _ party ∙ goes_on _ _ e ∙ stops _ _ 18 k (refl, refl, misfits))
+    pub fit_goes_on : {x : Checked (Unit {0})} → x ≡ in_order (misfit_checks c k) → x ≡ in_order (fit_checks c k)
+    unfolding fit_checks run_meant
+    fit_goes_on e = e ∙ checks_go_on both.0.0 _ _ (sym both.0.1)
+
+-- A check's fault, as it was found.
+pub of_fault : (n p : ℕ) {a f : Bool} {x : Checked (Unit {0})} → a ≡ f → x ≡ try (single n p a) → x ≡ try (single n p f)
+of_fault n p e h = h ∙ ap (λ b. try (single n p b)) e

@@ -1,5 +1,5 @@
 -- What the functions that test the rules ask for.
-use Rattle.std.specs.Prelude.{ℕ, ◌+◌, ◌≤◌, ◌<◌, ◌≡◌, ◌⊎◌, List}
+use Rattle.std.specs.Prelude.{ℕ, ◌+◌, ◌≤◌, ◌<◌, List}
 use Rattle.definition.specs.02-Ranges.{listed}
 use Rattle.definition.specs.13-Formulas.{Formula}
 use Rattle.definition.specs.14-Book.{tree_in}
@@ -15,18 +15,9 @@ pub record PremiseThere (s : List ℕ) (j : ℕ) : Type 0 where
 abbrev pub PremisesThere : List ℕ → (from len : ℕ) → Type 0
 PremisesThere s from len = (j : ℕ) → from ≤ j → j < from + len → PremiseThere s j
 
--- The formulas of the premises in the span from `from` on.
+-- The formula of premise entry j, and those of the premises in the span from `from` on.
+abbrev pub formula_at : List ℕ → ℕ → Formula
+formula_at s j = tree_in (formulas s) (step_formula s (premise_step s j))
+
 unfoldable pub premise_trees : List ℕ → (from len : ℕ) → List Formula
-premise_trees s from len = listed (λ j. tree_in (formulas s) (step_formula s (premise_step s j))) len from
-
--- The rules by how many premises and which argument they have.
-abbrev pub OneOfThree : (rule a b c : ℕ) → Type 0
-OneOfThree rule a b c = (rule ≡ a) ⊎ ((rule ≡ b) ⊎ (rule ≡ c))
-
--- Those with one premise and an argument.
-abbrev pub Argued : ℕ → Type 0
-Argued rule = OneOfThree rule 9 11 13 ⊎ OneOfThree rule 12 14 15
-
--- Those with one premise or two, but for rule 5.
-abbrev pub Premised : ℕ → Type 0
-Premised rule = OneOfThree rule 4 6 10 ⊎ (OneOfThree rule 3 7 8 ⊎ Argued rule)
+premise_trees s from len = listed (formula_at s) len from

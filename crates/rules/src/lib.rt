@@ -7,4 +7,4 @@ mod policies;
 mod sixteen;
 
 pub use fit::check_fit;
-pub use policies::{Policy, is_that, owed_by};
+pub use policies::{is_that, owed_by};

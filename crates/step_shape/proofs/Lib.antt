@@ -4,3 +4,4 @@ pub mod PremiseTurns
 pub mod EarlierPremises
 pub mod ShapeTests
 pub mod CitationLaws
+pub mod RuleTable

@@ -3,7 +3,6 @@ use Prim.Native.Nat.{ℕ, ◌+◌, ◌-◌, ◌≤◌, ◌<◌}
 use mathlib.Core.Path.{◌≡◌, sym, ap, ◌∙◌}
 use mathlib.Core.Bool.{true, false, not, ◌||◌}
 use mathlib.Core.List.{List, ◌∷◌}
-use native.Mathlib.Omega.{arith}
 use lib.ListN.{length}
 use lib.Dec.{ltb}
 use borrow.Author.Tests.{lt-ltb}
@@ -17,8 +16,6 @@ use Rattle.step_shape.proofs.SpanWalks.{listed_next, listed_end, listed_all}
 -- The premises from j on decide as all of them do from the start.
 pub record Turn (s : List ℕ) (k from len : ℕ) (before now : List ℕ) (j : ℕ) : Type 0 where
   pub long : length now ≡ 2048
-  pub begun : from ≤ j
-  pub within : j ≤ from + len
   pub is : bad_premises (used_of before) k (listed (premise_step s) len from) ≡ bad_premises (used_of now) k (listed (premise_step s) (from + len - j) j)
   pub left : with_used (left_in before) (takes (used_of before) k (listed (premise_step s) len from)) ≡ with_used (left_in now) (takes (used_of now) k (listed (premise_step s) (from + len - j) j))
 
@@ -27,8 +24,6 @@ module _ (s : List ℕ) (k from len : ℕ) (before : List ℕ) where
   turn_start long =
       record {
         long = long;
-        begun = omega arith;
-        within = omega arith;
         is = ap (bad_premises (used_of before) k) (sym (listed_all (premise_step s) from len));
         left = ap (λ ps. with_used (left_in before) (takes (used_of before) k ps)) (sym (listed_all (premise_step s) from len));
       }
@@ -54,8 +49,6 @@ module _ (s : List ℕ) (k from len : ℕ) (before : List ℕ) where
           let ps = listed (premise_step s) (from + len - (j + 1)) (j + 1) in
           record {
             long = marked.0;
-            begun = omega (arith, t.begun);
-            within = omega arith;
             is = t.is ∙ rw (rest, below, free) (ap (λ (l : ℕ → Left). bad_premises (λ i. (l i).used) k ps) up);
             left = t.left ∙ rw (rest, below, free) (ap (λ (l : ℕ → Left). with_used l (takes (λ i. (l i).used) k ps)) up);
           }

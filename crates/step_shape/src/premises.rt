@@ -13,18 +13,12 @@ pub fn take_premises(file: &[u8], k: usize, from: usize, len: usize, left: &mut 
     requires k_bound { (k ≤ 2048) × (length left.old ≡ 2048) }
     ensures { Taken file.now k from len left.old result left.new }
 {
-    let end = from + len;
-    let mut j = from;
-    while j < end {
+    for j in from..from + len {
         let p = premise_step(file, j) as usize;
-        if k <= p {
-            return true;
-        }
-        if is_used(left, p) {
+        if k <= p || is_used(left, p) {
             return true;
         }
         mark_used(left, p);
-        j += 1;
     }
     false
 }

@@ -6,14 +6,13 @@ ghost use Rattle.definition.specs.15-Records.{bad_span, span_due, step_from, ste
 ghost use Rattle.definition.specs.17-Case.{case_of};
 ghost use Rattle.definition.specs.18-Admission.{Parted};
 ghost use Rattle.definition.specs.22-Steps.{misshapen as is_misshapen, must_be_absent, rule_of};
-ghost use Rattle.case_file.specs.Booked.{Booked};
 ghost use Rattle.case_parts.specs.Records.{StepFields};
 ghost use Rattle.step_shape.specs.Meanings.{shape_meant, names_meant};
 ghost use Rattle.step_shape.specs.RuleLines.{shape_of};
 ghost use Rattle.step_shape.specs.RuleFit.{unlike_rule};
 
 use crate::rule_lines::{Names, Shape};
-use case_file::closed_policy;
+use case_file::{Case, closed_policy};
 use case_parts::{PREMISES, STEPS, Step, bad_span, count_of, step_at};
 use formula_rows::Term;
 
@@ -23,10 +22,11 @@ fn premises_due(file: &[u8], k: usize) -> usize
     ensures { result ≡ span_due (step_from file.now) (step_count file.now) k }
 {
     if k == 0 {
-        return 0;
+        0
+    } else {
+        let before = step_at(file, k - 1);
+        before.from as usize + before.len as usize
     }
-    let before = step_at(file, k - 1);
-    before.from as usize + before.len as usize
 }
 
 // Is the span of step `k`'s premises at fault?
@@ -50,44 +50,24 @@ fn bad_premise_span(file: &[u8], k: usize, from: u16, len: u16) -> bool
 fn needless_argument(names: Names, argument: u16) -> bool
     ensures { result ≡ (must_be_absent (names_meant names) && not (eqb argument absent)) }
 {
-    match names {
-        Names::Nothing => argument != Term::ABSENT,
-        Names::Label => false,
-        Names::Condition => false,
-        Names::Row => false,
-        Names::Obligation => false,
-        Names::Term => false,
-    }
+    names == Names::Nothing && argument != Term::ABSENT
 }
 
-// Does the rule not take so many premises, or no such argument?
+// Is the number of premises or the argument another than the rule's line has?
 fn unlike_rule(shape: Shape, len: u16, argument: u16) -> bool
     ensures { result ≡ unlike_rule (shape_meant shape) len argument }
 {
-    if len < shape.least {
-        return true;
-    }
-    if shape.most < len {
-        return true;
-    }
-    let names = shape.names;
-    needless_argument(names, argument)
+    len < shape.least || shape.most < len || needless_argument(shape.names, argument)
 }
 
 // Check 12 of step `k`.
-pub fn misshapen(file: &[u8], book: &[u8], k: usize, step: Step, shape: Shape) -> bool
-    requires booked { Booked file.now book.now × (k < count file.now step_part) }
-    requires step_fields { StepFields file.now k step × (shape_meant shape ≡ shape_of (rule_of (case_of file.now) k)) }
-    ensures { result ≡ is_misshapen (case_of file.now) k }
+pub fn misshapen(case: &Case, k: usize, step: Step, shape: Shape) -> bool
+    requires k_bound { k < count case.now.file.now step_part }
+    requires step_fields { StepFields case.now.file.now k step × (shape_meant shape ≡ shape_of (rule_of (case_of case.now.file.now) k)) }
+    ensures { result ≡ is_misshapen (case_of case.now.file.now) k }
 {
-    if 15 < step.rule {
-        return true;
-    }
-    if !closed_policy(book, step.formula) {
-        return true;
-    }
-    if bad_premise_span(file, k, step.from, step.len) {
-        return true;
-    }
-    unlike_rule(shape, step.len, step.argument)
+    15 < step.rule
+        || !closed_policy(case.book, step.formula)
+        || bad_premise_span(case.file, k, step.from, step.len)
+        || unlike_rule(shape, step.len, step.argument)
 }

@@ -4,7 +4,9 @@
 mod fresh;
 mod refining;
 mod step;
+mod step_tables;
 mod uses;
 
 pub use step::take_step;
+pub use step_tables::StepTables;
 pub use uses::each_use_labels;

@@ -9,7 +9,7 @@ ghost use Rattle.case_parts.specs.Records.{StepFields};
 ghost use Rattle.case_parts.specs.ShapedSteps.{ShapedStep};
 ghost use Rattle.tables.specs.Sets.{rests_meant, rests_of};
 
-use case_parts::{LABELS, Step, count_of, premise_step};
+use case_parts::{LABELS, Rule, Step, count_of, premise_step};
 use tables::{Resting, rests_at};
 
 // What premise `n` of those from `from` on rests on.
@@ -17,8 +17,7 @@ fn premise_rests(file: &[u8], from: usize, n: usize, left: &[u64; 2048]) -> Rest
     requires { Parted file.now × (from + n < count file.now premise_part) × (premise_step file.now (from + n) < 2048) }
     ensures { rests_meant result ≡ rests_of left.now (premise_step file.now (from + n)) }
 {
-    let p = premise_step(file, from + n) as usize;
-    rests_at(left, p)
+    rests_at(left, premise_step(file, from + n) as usize)
 }
 
 // Check 28 of step `k`.
@@ -27,11 +26,8 @@ pub fn no_tautology(file: &[u8], k: usize, step: Step, left: &[u64; 2048]) -> bo
     requires shaped_step { ShapedStep file.now k × StepFields file.now k step }
     ensures { result ≡ no_tautology (case_of file.now) (rests_of left.now) k }
 {
-    if step.rule != 4 {
-        return false;
-    }
-    let from = step.from as usize;
-    let rests = premise_rests(file, from, 0, left);
-    let labels = count_of(file, LABELS) as u32;
-    rests.on_something(labels)
+    step.is(Rule::Refine)
+        && premise_rests(file, step.from as usize, 0, left).on_something(
+            count_of(file, LABELS) as u32,
+        )
 }

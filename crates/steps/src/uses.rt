@@ -7,17 +7,17 @@ ghost use Rattle.definition.specs.18-Admission.{Parted};
 ghost use Rattle.definition.specs.17-Case.{case_of};
 ghost use Rattle.definition.specs.22-Steps.{no_rests, is_an_obligation, is_adding};
 ghost use Rattle.tables.specs.Sets.{labels_of, rests_meant, marks};
-ghost use Rattle.steps.specs.OpenLabels.{each_use_below, each_use_labels, OneMore, IsAbove, twice_used};
+ghost use Rattle.steps.specs.OpenLabels.{each_use_labels, OneMore, IsAbove, twice_used};
 ghost use Rattle.steps.specs.CitedEntries.{ObligationThere, LabelThere, EntryThere};
 ghost use Rattle.case_parts.specs.ShapedSteps.{PremisesBelow};
 ghost use Rattle.step_shape.specs.Meanings.{names_meant, effect_meant, shape_meant};
 
-use case_parts::{LABELS, count_of, label_at, obligation_at, premise_step};
+use case_parts::{LABELS, Mark, count_of, label_at, obligation_at, premise_step};
 use step_shape::{Effect, Names, Shape};
 use tables::{OpenSet, Resting, rests_at};
 
 // What the premises of a step rest on together, and whether two of them leave the same each-use label open.
-#[derive(Clone, Copy)]
+#[derive(Clone, Copy, Debug, PartialEq, Eq)]
 pub struct Above {
     pub rests: Resting,
     pub shared: bool,
@@ -38,33 +38,11 @@ impl Above {
     pub fn with(self, premise: Resting, each_use: OpenSet) -> Above
         ensures { OneMore (labels_of each_use.bits) (rests_meant premise) self result }
     {
-        let before = self.rests;
-        let rests = premise.join(before);
-        let labels = premise.opens;
-        if labels.shares(before.opens, each_use) {
-            return Above {
-                rests,
-                shared: true,
-            };
-        }
         Above {
-            rests,
-            shared: self.shared,
+            rests: premise.join(self.rests),
+            shared: premise.opens.shares(self.rests.opens, each_use) || self.shared,
         }
     }
-}
-
-// The each-use labels below `l`, and label `l` if it is one.
-fn with_label(file: &[u8], set: OpenSet, l: usize) -> OpenSet
-    requires parted { Parted file.now × (l < count file.now label_part) }
-    requires bits_value { labels_of set.bits ≡ each_use_below file.now l }
-    ensures { labels_of result.bits ≡ each_use_below file.now (l + 1) }
-{
-    let label = label_at(file, l);
-    if label.mark == 1 {
-        return set.add(l as u32);
-    }
-    set
 }
 
 // The labels of the file whose mark is each use.
@@ -72,17 +50,16 @@ pub fn each_use_labels(file: &[u8]) -> OpenSet
     requires { Parted file.now }
     ensures { labels_of result.bits ≡ each_use_labels file.now }
 {
-    let n = count_of(file, LABELS);
     let mut set = OpenSet::empty();
-    let mut l: usize = 0;
-    while l < n {
-        set = with_label(file, set, l);
-        l += 1;
+    for l in 0..count_of(file, LABELS) {
+        if label_at(file, l).is(Mark::EachUse) {
+            set = set.add(l as u32);
+        }
     }
     set
 }
 
-// Of the `len` premises from `from` on. The last comes first: each is held against those behind it.
+// What the `len` premises from `from` on rest on together. The last comes first: each is held against those behind it.
 pub fn rests_above(
     file: &[u8],
     from: usize,
@@ -91,14 +68,12 @@ pub fn rests_above(
     each_use: OpenSet,
 ) -> Above
     requires parted { Parted file.now × (from + len ≤ count file.now premise_part) }
-    requires premises_below { PremisesBelow file.now from len 2048 × (length left.now ≡ 2048) }
+    requires premises_below { PremisesBelow file.now from len 2048 }
     requires bits_value { labels_of each_use.bits ≡ each_use_labels file.now }
     ensures { IsAbove file.now from len left.now result }
 {
     let mut above = Above::nothing();
-    let mut j = from + len;
-    while from < j {
-        j -= 1;
+    for j in (from..from + len).rev() {
         let p = premise_step(file, j) as usize;
         above = above.with(rests_at(left, p), each_use);
     }
@@ -107,25 +82,13 @@ pub fn rests_above(
 
 // Is the entry an each-use obligation that an earlier step has discharged?
 fn discharged_before(file: &[u8], names: Names, argument: u16, discharged: &[bool; 64]) -> bool
-    requires parted { Parted file.now × (length discharged.now ≡ 64) }
+    requires parted { Parted file.now }
     requires obligation_there { ObligationThere file.now (names_meant names) argument }
     ensures { result ≡ (is_an_obligation (names_meant names) && eqb (obligation_mark file.now argument) each_use && marks discharged.now argument) }
 {
-    match names {
-        Names::Nothing => false,
-        Names::Label => false,
-        Names::Condition => false,
-        Names::Row => false,
-        Names::Obligation => {
-            let entry = argument as usize;
-            let obligation = obligation_at(file, entry);
-            if obligation.mark == 1 {
-                return discharged[entry];
-            }
-            false
-        }
-        Names::Term => false,
-    }
+    matches!(names, Names::Obligation)
+        && obligation_at(file, argument as usize).is(Mark::EachUse)
+        && discharged[argument as usize]
 }
 
 // Is the label that the step adds an each-use label that is open above it?
@@ -133,17 +96,7 @@ fn open_before(effect: Effect, argument: u16, above: OpenSet, each_use: OpenSet)
     requires { LabelThere (effect_meant effect) argument }
     ensures { result ≡ (is_adding (effect_meant effect) && labels_of each_use.bits argument && labels_of above.bits argument) }
 {
-    match effect {
-        Effect::Keeps => false,
-        Effect::Adds => {
-            let label = argument as u32;
-            if each_use.has(label) {
-                return above.has(label);
-            }
-            false
-        }
-        Effect::Closes => false,
-    }
+    matches!(effect, Effect::Adds) && each_use.has(argument as u32) && above.has(argument as u32)
 }
 
 // Check 17 of a step: an each-use obligation cited before, an each-use label open in two premises, or already open where the step adds it.
@@ -155,19 +108,12 @@ pub fn used_twice(
     each_use: OpenSet,
     discharged: &[bool; 64],
 ) -> bool
-    requires parted { Parted file.now × (length discharged.now ≡ 64) }
+    requires parted { Parted file.now }
     requires entry_there { EntryThere file.now (shape_meant shape) argument }
     requires bits_value { labels_of each_use.bits ≡ each_use_labels file.now }
     ensures { result ≡ twice_used (case_of file.now) (shape_meant shape) argument (marks discharged.now) (labels_of above.rests.opens.bits) above.shared }
 {
-    let names = shape.names;
-    if discharged_before(file, names, argument, discharged) {
-        return true;
-    }
-    if above.shared {
-        return true;
-    }
-    let effect = shape.effect;
-    let rests = above.rests;
-    open_before(effect, argument, rests.opens, each_use)
+    discharged_before(file, shape.names, argument, discharged)
+        || above.shared
+        || open_before(shape.effect, argument, above.rests.opens, each_use)
 }

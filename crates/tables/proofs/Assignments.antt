@@ -14,34 +14,32 @@ use Rattle.definition.proofs.Tests.{not_both, one_answer}
 use Rattle.definition.proofs.RangeLaws.{any_true, any_some}
 use Rattle.tables.specs.Sets.{marks, left_of, left_in, rests_of, used_of}
 
--- An assignment, in a table whose entries are read by f.
-set_updates :
-    {A B : Type 0} (f : A → B) (t : List A) (d : A) (k : ℕ) (v : A) → k < length t →
-    (j : ℕ) → f (get_or (set t k v) j d) ≡ update (λ i. f (get_or t i d)) k (f v) j
+-- A table that has v at k, and elsewhere what f has.
+pub updated : {A : Type 0} (g f : ℕ → A) (k : ℕ) (v : A) → g k ≡ v → ((j : ℕ) → (j ≡ k → ⊥) → g j ≡ f j) → g ≡ update f k v
 unfolding update
-set_updates f t d k v h j = go (eqb j k) refl
+updated g f k v here other = fun_ext (λ j. go j (eqb j k) refl)
   where
-    go : (b : Bool) → eqb j k ≡ b → f (get_or (set t k v) j d) ≡ update (λ i. f (get_or t i d)) k (f v) j
-    go true e = rw (e, eqb-true j k e, get_or-set_same t k v d h)
-    go false e = rw (e, get_or-set_other t k j v d (eqb-false j k e))
+    go : (j : ℕ) (b : Bool) → eqb j k ≡ b → g j ≡ update f k v j
+    go j true e = rw (e, eqb-true j k e) here
+    go j false e = rw e (other j (eqb-false j k e))
+
+-- An assignment, in a table whose entries are read by f.
+set_updates : {A B : Type 0} (f : A → B) (t : List A) (d : A) (k : ℕ) (v : A) → k < length t → (λ j. f (get_or (set t k v) j d)) ≡ update (λ i. f (get_or t i d)) k (f v)
+set_updates f t d k v h =
+    updated (λ j. f (get_or (set t k v) j d)) (λ i. f (get_or t i d)) k (f v) (ap f (get_or-set_same t k v d h)) (λ j ne. ap f (get_or-set_other t k j v d ne))
 
 pub marks_set : (t : List Bool) (k : ℕ) (v : Bool) → k < length t → marks (set t k v) ≡ update (marks t) k v
 unfolding marks
-marks_set t k v h = fun_ext (set_updates (λ b. b) t false k v h)
+marks_set t k v h = set_updates (λ b. b) t false k v h
 
-pub update_own : {A : Type 0} (f : ℕ → A) (k : ℕ) → update f k (f k) ≡ f
-unfolding update
-update_own f k = fun_ext (λ j. go j (eqb j k) refl)
-  where
-    go : (j : ℕ) (b : Bool) → eqb j k ≡ b → update f k (f k) j ≡ f j
-    go j true e = rw (e, eqb-true j k e)
-    go j false e = rw e
+update_own : {A : Type 0} (f : ℕ → A) (k : ℕ) → update f k (f k) ≡ f
+update_own f k = sym (updated f f k (f k) refl (λ j ne. refl))
 
 -- An entry of the table of what the steps leave behind: of a step that rests on other things, or is used.
 module _ (t : List ℕ) (k n : ℕ) (h : k < length t) where
   entry_set : {A : Type 0} (f : Left → A) {v : A} → f (left_of n) ≡ v → (λ j. f (left_in (set t k n) j)) ≡ update (λ j. f (left_in t j)) k v
   unfolding left_in
-  entry_set f e = fun_ext (set_updates (λ m. f (left_of m)) t 0 k n h) ∙ ap (update (λ j. f (left_in t j)) k) e
+  entry_set f e = set_updates (λ m. f (left_of m)) t 0 k n h ∙ ap (update (λ j. f (left_in t j)) k) e
 
   pub rests_set : {r : Rests} → (left_of n).rests ≡ r → (left_of n).used ≡ used_of t k → left_in (set t k n) ≡ with_rests (left_in t) (update (rests_of t) k r)
   rests_set e f = λ i j. record { rests = entry_set (λ v. v.rests) e i j; used = (entry_set (λ v. v.used) f ∙ update_own (used_of t) k) i j }

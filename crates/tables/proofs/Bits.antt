@@ -1,44 +1,35 @@
--- A number's binary digits as a set of labels: `|`, `&` and `^` act on each digit by itself, a power of two has one digit, and a number below 2 ^ w
--- has none from w on. Assumes nothing.
-use Prim.Native.Nat.compare
-use Prim.Native.Nat.{ℕ, zero, suc, ◌+◌, ◌-◌, ◌*◌, ◌/◌, ◌%◌, ◌^◌, ◌≤◌, ◌<◌}
+-- A number's binary digits as a set of labels: `|` and `&` act on each digit by itself, and a number that is not 0 has a digit. Assumes nothing.
+use Prim.Native.Nat.{ℕ, zero, suc, ◌+◌, ◌-◌, ◌*◌, ◌/◌, ◌%◌, ◌^◌, ◌≤◌, ◌<◌, min, max}
 use mathlib.Core.Path.{◌≡◌, refl, sym, ap, ◌∙◌, fun_ext}
-use mathlib.Core.Bool.{Bool, true, false, not, cond, ◌&&◌, ◌||◌}
+use mathlib.Core.Bool.{Bool, true, false, not, ◌&&◌, ◌||◌}
 use mathlib.Core.Logic.{◌⊎◌, inl, inr}
-use native.Mathlib.Nat.{zero-div, div-one, div-eq_of_lt, pow-suc, mul-mod_left, mul-div-mul_right, one-mul, mod-lt}
+use native.Mathlib.Nat.{div-one, pow-suc, one-mul, mod-lt}
 use native.Mathlib.Omega.{arith}
-use lib.Bits.{bit_and, bit_or, bit_xor, and_shr, or_shr, xor_shr, and_mod, or_mod, xor_mod, and_le_r}
-use lib.Dec.{eqb, compare_is_eq}
-use lib.Pow.{pow-lt, pow_mono, pow_pos, shl_exact, shr-shr, field, mod-mod-pow}
-use borrow.Author.Tests.{ne_eqb, eqb-false, not-true}
+use lib.Bits.{bit_and, bit_or, and_le_l, and_le_r}
+use lib.Dec.{eqb, ltb}
+use lib.Pow.{pow_pos, shl_exact, shr-shr, field, mod-mod-pow}
+use borrow.Author.Tests.{ltb-true, ltb-false, ne_eqb, eqb-false, not-true}
 use Rattle.definition.specs.02-Ranges.{any, update}
 use Rattle.definition.proofs.Tests.{not_both, one_answer}
 use Rattle.definition.proofs.RangeLaws.{any_true, any_some}
 use Rattle.tables.specs.Sets.{labels_of}
-use Rattle.tables.proofs.Assignments.{any_as}
+use Rattle.tables.proofs.Assignments.{updated, any_as}
+use Rattle.std.specs.Int.{bit_at, bit_not, w32}
+use Rattle.std.proofs.lemmas.Nat.Bits.{bit_at-zero, bit_at-lt, bit_at_and, bit_at_or, bit_at_above, bit_at_set_same, bit_at_set_other, bit_at_clear_same, bit_at_clear_other}
 
--- The digit of n for label l, which is 0 or 1.
-abbrev digit : ℕ → ℕ → ℕ
-digit n l = n / 2 ^ l % 2
-
+-- A digit is 0 or 1.
 binary : (x : ℕ) → x < 2 → (x ≡ 0) ⊎ (x ≡ 1)
 binary zero h = inl refl
 binary (suc zero) h = inr refl
 binary (suc (suc x)) h = absurd (omega arith)
 
-digit_is : (n l : ℕ) → (digit n l ≡ 0) ⊎ (digit n l ≡ 1)
-digit_is n l = binary (n / 2 ^ l % 2) (omega arith)
-
--- An operation that acts on each digit by itself, and agrees with a test on 0 and 1, is that test on the labels.
+-- An operation on two digits that agrees with a test.
 digitwise :
-    (op : ℕ → ℕ → ℕ) (test : Bool → Bool → Bool) → ((a b k : ℕ) → op a b / 2 ^ k ≡ op (a / 2 ^ k) (b / 2 ^ k)) →
-    ((a b k : ℕ) → op a b % 2 ^ k ≡ op (a % 2 ^ k) (b % 2 ^ k)) →
-    eqb (op 0 0) 1 ≡ test false false → eqb (op 0 1) 1 ≡ test false true → eqb (op 1 0) 1 ≡ test true false →
-    eqb (op 1 1) 1 ≡ test true true → (a b l : ℕ) → labels_of (op a b) l ≡ test (labels_of a l) (labels_of b l)
+    (op : ℕ → ℕ → ℕ) (test : Bool → Bool → Bool) → eqb (op 0 0) 1 ≡ test false false → eqb (op 0 1) 1 ≡ test false true →
+    eqb (op 1 0) 1 ≡ test true false → eqb (op 1 1) 1 ≡ test true true → (a b l : ℕ) →
+    eqb (op (bit_at a l) (bit_at b l)) 1 ≡ test (labels_of a l) (labels_of b l)
 unfolding labels_of
-digitwise op test up low e00 e01 e10 e11 a b l =
-    ap (λ (x : ℕ). eqb x 1) (ap (λ (x : ℕ). x % 2) (up a b l) ∙ low (a / 2 ^ l) (b / 2 ^ l) 1)
-    ∙ on (digit_is a l) (digit_is b l)
+digitwise op test e00 e01 e10 e11 a b l = on (binary _ (bit_at-lt a l)) (binary _ (bit_at-lt b l))
   where
     on :
         {x y : ℕ} → (x ≡ 0) ⊎ (x ≡ 1) → (y ≡ 0) ⊎ (y ≡ 1) → eqb (op x y) 1 ≡ test (eqb x 1) (eqb y 1)
@@ -47,29 +38,18 @@ digitwise op test up low e00 e01 e10 e11 a b l =
     on (inr p) (inl q) = rw (p, q) e10
     on (inr p) (inr q) = rw (p, q) e11
 
-pub or_label : (a b l : ℕ) → labels_of (bit_or a b) l ≡ labels_of a l || labels_of b l
-or_label = digitwise bit_or (λ x y. x || y) or_shr or_mod refl refl refl refl
+or_label : (a b l : ℕ) → labels_of (bit_or a b) l ≡ labels_of a l || labels_of b l
+unfolding labels_of
+or_label a b l = ap (λ (x : ℕ). eqb x 1) (bit_at_or a b l) ∙ digitwise max (λ x y. x || y) refl refl refl refl a b l
 
-pub and_label : (a b l : ℕ) → labels_of (bit_and a b) l ≡ labels_of a l && labels_of b l
-and_label = digitwise bit_and (λ x y. x && y) and_shr and_mod refl refl refl refl
+and_label : (a b l : ℕ) → labels_of (bit_and a b) l ≡ labels_of a l && labels_of b l
+unfolding labels_of
+and_label a b l = ap (λ (x : ℕ). eqb x 1) (bit_at_and a b l) ∙ digitwise min (λ x y. x && y) refl refl refl refl a b l
 
-pub xor_label : (a b l : ℕ) → labels_of (bit_xor a b) l ≡ cond (labels_of a l) (not (labels_of b l)) (labels_of b l)
-xor_label = digitwise bit_xor (λ x y. cond x (not y) y) xor_shr xor_mod refl refl refl refl
-
--- No label, and one label.
+-- No label.
 pub labels_none : labels_of 0 ≡ (λ l. false)
 unfolding labels_of
-labels_none = fun_ext (λ l. ap (λ (x : ℕ). eqb (x % 2) 1) (zero-div (2 ^ l)))
-
-pub one_label : (k l : ℕ) → labels_of (2 ^ k) l ≡ eqb l k
-unfolding labels_of
-one_label zero zero = refl
-one_label zero (suc l) =
-    rw (div-eq_of_lt {m = 2 ^ suc l} (pow-lt {i = 0} {j = suc l} (omega arith))) (sym (ne_eqb (suc l) 0 (omega arith)))
-one_label (suc k) zero = rw (div-one, pow-suc, mul-mod_left) (sym (ne_eqb 0 (suc k) (omega arith)))
-one_label (suc k) (suc l) =
-    rw (pow-suc 2 k, pow-suc 2 l, mul-div-mul_right {m = 2} (2 ^ k) (2 ^ l) (omega arith))
-    (one_label k l ∙ ap compare_is_eq (sym (compare.suc-suc l k)))
+labels_none = fun_ext (λ l. ap (λ (x : ℕ). eqb x 1) (bit_at-zero l))
 
 -- `1 << k`, cut at w bits, is the power.
 pub shifted_one : (w k : ℕ) → k < w → 1 * 2 ^ k % 2 ^ w ≡ 2 ^ k
@@ -79,33 +59,25 @@ shifted_one w k h = shl_exact {a = 1} 1 k w (omega arith) (omega arith) ∙ one-
 pub labels_both : (a b : ℕ) → labels_of (bit_or a b) ≡ (λ l. labels_of a l || labels_of b l)
 labels_both a b = fun_ext (or_label a b)
 
-added : (x y : Bool) → x || y ≡ cond y true x
-added true true = refl
-added true false = refl
-added false true = refl
-added false false = refl
-
-pub labels_with : (n k : ℕ) → labels_of (bit_or n (2 ^ k)) ≡ update (labels_of n) k true
-unfolding update
-labels_with n k = fun_ext (λ l. or_label n (2 ^ k) l ∙ rw (one_label k l) (added (labels_of n l) (eqb l k)))
-
-removed : (x y : Bool) → cond x (not (x && y)) (x && y) ≡ cond y false x
-removed true true = refl
-removed true false = refl
-removed false true = refl
-removed false false = refl
-
-pub labels_without : (n k : ℕ) → labels_of (bit_xor n (bit_and n (2 ^ k))) ≡ update (labels_of n) k false
-unfolding update
-labels_without n k =
-    fun_ext
-    (λ l. xor_label n (bit_and n (2 ^ k)) l ∙ rw (and_label n (2 ^ k) l, one_label k l) (removed (labels_of n l) (eqb l k)))
-
--- A number below 2 ^ w has no label from w on, and if it is not 0, one below w.
-pub labels_past : (w n l : ℕ) → n < 2 ^ w → w ≤ l → labels_of n l ≡ false
+pub labels_with : (n k : ℕ) → k < 32 → labels_of (bit_or n (1 * 2 ^ k % 2 ^ 32)) ≡ update (labels_of n) k true
 unfolding labels_of
-labels_past w n l h g = let p = pow_mono {i = w} {j = l} g in rw (div-eq_of_lt {n = n} {m = 2 ^ l} (omega arith))
+labels_with n k h =
+    updated _ (labels_of n) k true (ap (λ (x : ℕ). eqb x 1) (bit_at_set_same w32 n k h)) (λ l ne. ap (λ (x : ℕ). eqb x 1) (bit_at_set_other w32 n k h l ne))
 
+pub labels_without : (n k : ℕ) → n < 2 ^ 32 → k < 32 → labels_of (bit_and n (bit_not w32 (1 * 2 ^ k % 2 ^ 32))) ≡ update (labels_of n) k false
+unfolding labels_of
+labels_without n k low h =
+    updated _ (labels_of n) k false (ap (λ (x : ℕ). eqb x 1) (bit_at_clear_same w32 n k h))
+    (λ l ne. ap (λ (x : ℕ). eqb x 1) (other l ne (ltb l 32) refl))
+  where
+    other : (l : ℕ) → (l ≡ k → ⊥) → (b : Bool) → ltb l 32 ≡ b → bit_at (bit_and n (bit_not w32 (1 * 2 ^ k % 2 ^ 32))) l ≡ bit_at n l
+    other l ne true e = bit_at_clear_other w32 n k h l (ltb-true l 32 e) ne
+    other l ne false e =
+        let up : 32 ≤ l = ltb-false l 32 e in
+        let le = and_le_l n (bit_not w32 (1 * 2 ^ k % 2 ^ 32)) in
+        bit_at_above _ 32 l (omega arith) up ∙ sym (bit_at_above n 32 l low up)
+
+-- A number below 2 ^ w that is not 0 has a label below w.
 half_label : (n l : ℕ) → labels_of (n / 2) l ≡ labels_of n (1 + l)
 unfolding labels_of
 half_label n l = ap (λ (x : ℕ). eqb (x % 2) 1) (shr-shr n 1 l)
@@ -122,7 +94,7 @@ some_label (suc w) n h ne = let p = pow-suc 2 w in go (binary (n % 2) (omega ari
     go (inl e) rest = let r = rest e in (1 + r.0, omega arith, sym (half_label n r.0) ∙ r.2)
 
 -- So it is not 0 just if one of the first w labels is in it.
-pub any_label : (w n : ℕ) → n < 2 ^ w → not (eqb n 0) ≡ any (labels_of n) w 0
+any_label : (w n : ℕ) → n < 2 ^ w → not (eqb n 0) ≡ any (labels_of n) w 0
 any_label w n h =
     one_answer (not (eqb n 0))
     (λ e z. eqb-false n 0 (not-true (eqb n 0) e) z, λ ne. rw (ne_eqb n 0 ne)) (

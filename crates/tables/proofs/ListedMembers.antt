@@ -1,24 +1,27 @@
 -- The numbers at which a test holds, listed from the front: those of the first a + b are those of the first a, then those of the next b.
 -- So a loop may count and write them as it meets them. Assumes nothing.
 use Prim.Native.Nat.{ℕ, zero, suc, ◌+◌, ◌-◌, ◌≤◌, ◌<◌}
-use mathlib.Core.Path.{◌≡◌, refl, sym, ap, ◌∙◌}
+use mathlib.Core.Path.{◌≡◌, refl, sym, ap, subst, ◌∙◌}
 use mathlib.Core.Bool.{Bool, true, false, cond}
 use mathlib.Core.List.{List, [], ◌∷◌, ◌++◌, append-nil, append_assoc}
 use native.Mathlib.Nat.{add-zero, zero-add, suc-add}
 use native.Mathlib.Numerals.{add-one}
 use native.Mathlib.Omega.{arith}
-use lib.ListN.{length, get_or, take, drop, set, length-append, length-drop}
+use lib.ListN.{length, get_or, take, drop, set, length-append}
 use lib.Seq.{drop-cons, set-append_seam, append_snoc, take_at, drop_at, drop-drop}
 use borrow.Rule.Slice.PartMut.{mid_of, put_mid}
+use Rattle.std.specs.List.{count_by}
+use Rattle.std.proofs.lemmas.List.Sums.{count_by_more_no, count_by_more_yes}
 use Rattle.definition.specs.02-Ranges.{members}
 use Rattle.words.proofs.LentParts.{lent_part, part_back}
+use Rattle.tables.specs.Sets.{marks}
 
 module _ (p : ℕ → Bool) where
   head : (b : Bool) (x : ℕ) (r s : List ℕ) → cond b (x ∷ (r ++ s)) (r ++ s) ≡ cond b (x ∷ r) r ++ s
   head true x r s = refl
   head false x r s = refl
 
-  pub members_split : (a b i : ℕ) → members p (a + b) i ≡ members p a i ++ members p b (i + a)
+  members_split : (a b i : ℕ) → members p (a + b) i ≡ members p a i ++ members p b (i + a)
   unfolding members
   members_split zero b i = rw (zero-add b, add-zero i)
   members_split (suc a) b i =
@@ -43,10 +46,17 @@ module _ (p : ℕ → Bool) where
       let sum = length-append (members p k 0) (members p (n - k) (0 + k)) in
       omega arith
 
--- A list written over the front of a table: its length, and one entry more.
-pub front_length : (xs l : List ℕ) → length xs ≤ length l → length (xs ++ drop (length xs) l) ≡ length l
-front_length xs l le = omega (arith, length-append xs (drop (length xs) l), length-drop (length xs) l)
+-- How many flags of the first n are set.
+pub marked_count : (t : List Bool) (n : ℕ) → n ≤ length t → count_by (λ (b : Bool). b) (take n t) ≡ length (members (marks t) n 0)
+unfolding members marks
+marked_count t zero le = refl
+marked_count t (suc n) le = subst (λ (m : ℕ). count_by (λ (b : Bool). b) (take m t) ≡ length (members (marks t) m 0)) (add-one n) (go (get_or t n false) refl (marked_count t n (omega arith)))
+  where
+    go : (b : Bool) → get_or t n false ≡ b → count_by (λ (b : Bool). b) (take n t) ≡ length (members (marks t) n 0) → count_by (λ (b : Bool). b) (take (n + 1) t) ≡ length (members (marks t) (n + 1) 0)
+    go true e same = count_by_more_yes (λ b. b) t n false (omega arith) e ∙ ap (λ (x : ℕ). x + 1) same ∙ sym (count_hit (marks t) n e)
+    go false e same = count_by_more_no (λ b. b) t n false (omega arith) e ∙ same ∙ sym (ap length (members_miss (marks t) n e))
 
+-- A list written over the front of a table, and one entry more.
 pub front_more :
     (xs l : List ℕ) (v : ℕ) → length xs < length l →
     set (xs ++ drop (length xs) l) (length xs) v ≡ (xs ++ (v ∷ [])) ++ drop (length (xs ++ (v ∷ []))) l

@@ -8,15 +8,7 @@ pub fn count_marked(flags: &[bool], n: usize) -> usize
     requires { n ≤ length flags.now }
     ensures { (result ≡ length (members (marks_of flags.now) n 0)) × (result ≤ n) }
 {
-    let mut count: usize = 0;
-    let mut k: usize = 0;
-    while k < n {
-        if flags[k] {
-            count += 1;
-        }
-        k += 1;
-    }
-    count
+    flags[..n].iter().filter(|marked| **marked).count()
 }
 
 // The numbers of the first `n` that are marked, ascending, into the first entries of `room`. The others stay.
@@ -25,13 +17,11 @@ pub fn write_marked(room: &mut [u16], flags: &[bool], n: usize)
     ensures { room.new ≡ members (marks_of flags.now) n 0 ++ drop (length (members (marks_of flags.now) n 0)) room.old }
 {
     let mut at: usize = 0;
-    let mut k: usize = 0;
-    while k < n {
-        if flags[k] {
+    for (k, marked) in flags[..n].iter().enumerate() {
+        if *marked {
             room[at] = k as u16;
             at += 1;
         }
-        k += 1;
     }
 }
 

@@ -1,11 +1,16 @@
 // The table of what the steps leave behind. Of an entry, the binary digits 0 to 31 are the labels that the step leaves open, digit 32 tells that a later step has it as a premise, and digit 33 that it or a step above it cites evidence.
-ghost use Rattle.std.specs.Prelude.{◌≡◌, true, not, ◌<◌, ◌≤◌, length};
-ghost use Rattle.definition.specs.02-Ranges.{lowest, update};
+ghost use Rattle.std.specs.Prelude.{◌≡◌, true, ◌<◌, length};
+ghost use Rattle.definition.specs.02-Ranges.{update};
 ghost use Rattle.definition.specs.22-Steps.{with_rests, with_used};
 ghost use Rattle.tables.specs.Sets.{labels_of, rests_meant, left_in, rests_of, opens_of, used_of};
 
 use crate::open_set::OpenSet;
 use crate::rests::Resting;
+
+// The digits of an entry behind those of the labels.
+const USED: u32 = 32;
+
+const CITES: u32 = 33;
 
 // The labels that step `k` leaves open.
 pub fn opens_at(left: &[u64; 2048], k: usize) -> OpenSet
@@ -13,7 +18,7 @@ pub fn opens_at(left: &[u64; 2048], k: usize) -> OpenSet
     ensures { labels_of result.bits ≡ opens_of left.now k }
 {
     OpenSet {
-        bits: (left[k] % 4294967296) as u32,
+        bits: (left[k] % (1 << USED)) as u32,
     }
 }
 
@@ -24,7 +29,7 @@ pub fn rests_at(left: &[u64; 2048], k: usize) -> Resting
 {
     Resting {
         opens: opens_at(left, k),
-        cites: (left[k] >> 33) % 2 == 1,
+        cites: (left[k] >> CITES) % 2 == 1,
     }
 }
 
@@ -33,13 +38,9 @@ pub fn set_rests(left: &mut [u64; 2048], k: usize, rests: Resting)
     requires { (k < 2048) × (length left.old ≡ 2048) }
     ensures { (length left.new ≡ 2048) × (left_in left.new ≡ with_rests (left_in left.old) (update (rests_of left.old) k (rests_meant rests))) }
 {
-    let labels = rests.opens;
-    let used = (left[k] >> 32) % 2;
-    if rests.cites {
-        left[k] = ((used + 2) << 32) + labels.bits as u64;
-        return;
-    }
-    left[k] = (used << 32) + labels.bits as u64;
+    let used = (left[k] >> USED) % 2;
+    let cites = u64::from(rests.cites);
+    left[k] = ((used + 2 * cites) << USED) + u64::from(rests.opens.bits);
 }
 
 // Does a later step have step `k` as a premise?
@@ -47,27 +48,12 @@ pub fn is_used(left: &[u64; 2048], k: usize) -> bool
     requires { k < 2048 }
     ensures { result ≡ used_of left.now k }
 {
-    (left[k] >> 32) % 2 == 1
+    (left[k] >> USED) % 2 == 1
 }
 
 pub fn mark_used(left: &mut [u64; 2048], k: usize)
     requires { (k < 2048) × (length left.old ≡ 2048) }
     ensures { (length left.new ≡ 2048) × (left_in left.new ≡ with_used (left_in left.old) (update (used_of left.old) k true)) }
 {
-    left[k] = left[k] | 4294967296;
-}
-
-// The lowest of the first `n` steps that is not used, or `n`.
-pub fn first_unused(left: &[u64; 2048], n: usize) -> usize
-    requires { n ≤ 2048 }
-    ensures { result ≡ lowest (λ k. not (used_of left.now k)) n 0 }
-{
-    let mut k: usize = 0;
-    while k < n {
-        if !is_used(left, k) {
-            return k;
-        }
-        k += 1;
-    }
-    n
+    left[k] |= 1 << USED;
 }

@@ -7,6 +7,6 @@ mod open_set;
 mod rests;
 
 pub use flags::{count_marked, write_lists};
-pub use left::{first_unused, is_used, mark_used, opens_at, rests_at, set_rests};
+pub use left::{is_used, mark_used, opens_at, rests_at, set_rests};
 pub use open_set::OpenSet;
 pub use rests::Resting;

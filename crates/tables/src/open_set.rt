@@ -3,7 +3,7 @@ ghost use Rattle.std.specs.Prelude.{◌≡◌, true, false, ◌&&◌, ◌||◌, 
 ghost use Rattle.definition.specs.02-Ranges.{any, update};
 ghost use Rattle.tables.specs.Sets.{labels_of};
 
-#[derive(Clone, Copy)]
+#[derive(Clone, Copy, Debug, PartialEq, Eq)]
 pub struct OpenSet {
     pub bits: u32,
 }
@@ -39,7 +39,7 @@ impl OpenSet {
         ensures { labels_of result.bits ≡ update (labels_of self.bits) label false }
     {
         OpenSet {
-            bits: self.bits ^ (self.bits & (1 << label)),
+            bits: self.bits & !(1 << label),
         }
     }
 
@@ -55,8 +55,7 @@ impl OpenSet {
         requires { n ≤ 32 }
         ensures { result ≡ any (labels_of self.bits) n 0 }
     {
-        let power: u64 = 1 << n;
-        (self.bits as u64) % power != 0
+        u64::from(self.bits) % (1 << n) != 0
     }
 
     pub fn has(self, label: u32) -> bool

@@ -7,7 +7,7 @@ ghost use Rattle.tables.specs.Sets.{labels_of, rests_meant};
 use crate::open_set::OpenSet;
 
 // The labels that it leaves open, and whether it or a step above it cites evidence: a log row, condition or obligation.
-#[derive(Clone, Copy)]
+#[derive(Clone, Copy, Debug, PartialEq, Eq)]
 pub struct Resting {
     pub opens: OpenSet,
     pub cites: bool,
@@ -28,14 +28,9 @@ impl Resting {
     pub fn join(self, other: Resting) -> Resting
         ensures { rests_meant result ≡ both_rests (rests_meant self) (rests_meant other) }
     {
-        let own = self.opens;
-        let opens = own.join(other.opens);
-        if self.cites {
-            return Resting { opens, cites: true };
-        }
         Resting {
-            opens,
-            cites: other.cites,
+            opens: self.opens.join(other.opens),
+            cites: self.cites || other.cites,
         }
     }
 
@@ -44,10 +39,6 @@ impl Resting {
         requires { n ≤ 32 }
         ensures { result ≡ (self.cites || any (labels_of self.opens.bits) n 0) }
     {
-        if self.cites {
-            return true;
-        }
-        let opens = self.opens;
-        opens.some_below(n)
+        self.cites || self.opens.some_below(n)
     }
 }

@@ -6,14 +6,14 @@ mod runs;
 ghost use Rattle.std.specs.Prelude.{◌≡◌, ◌+◌, ◌≤◌, length};
 ghost use Rattle.definition.specs.01-Words.{word, long};
 
-pub use runs::{Counted, Failure};
+pub use runs::{Check, Refusal, each, single};
 
 // The number in the two bytes at `at`.
 pub fn read_word(bytes: &[u8], at: usize) -> u16
     requires { at + 2 ≤ length bytes.now }
     ensures { result ≡ word bytes.now at }
 {
-    (bytes[at] as u16) + 256 * (bytes[at + 1] as u16)
+    u16::from_le_bytes([bytes[at], bytes[at + 1]])
 }
 
 // The number in the four bytes at `at`.
@@ -21,5 +21,5 @@ pub fn read_long(bytes: &[u8], at: usize) -> u32
     requires { at + 4 ≤ length bytes.now }
     ensures { result ≡ long bytes.now at }
 {
-    (read_word(bytes, at) as u32) + 65536 * (read_word(bytes, at + 2) as u32)
+    u32::from_le_bytes([bytes[at], bytes[at + 1], bytes[at + 2], bytes[at + 3]])
 }

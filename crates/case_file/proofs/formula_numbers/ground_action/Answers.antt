@@ -1,26 +1,16 @@
 -- `ground_action` meets its contract. Assumes nothing.
-use borrow.Author.Tests.{lt-leb, le-leb}
+use Rattle.std.proofs.Common.{rules, ◌∙◌, leb}
+use Rattle.definition.specs.13-Formulas.{is_ground}
+use Rattle.definition.specs.14-Book.{tree_in, book}
 use Rattle.definition.specs.15-Records.{is_ground_action}
-use Rattle.definition.specs.14-Book.{book_rows}
-use Rattle.case_file.proofs.NumberAnswers.{actions, row_good, row_inside, not_beyond, not_other, by_test}
+use Rattle.case_file.proofs.NumberAnswers.{actions, row_good, number_told}
 use Rattle.case_file.proofs.formula_numbers.ground_action.Goals as goal
 
-pub returns-then-book-at : goal.returns-then-book-at
-unfolding is_ground_action book_rows
-returns-then-book-at c = not_beyond _ _ c.requires actions _ c.if-book-at.true
-
-pub row_at-row-requires : goal.row_at-row-requires
-unfolding book_rows
-row_at-row-requires c = row_inside _ _ c.requires c.if-book-at.false
-
-pub returns-then-row-lt8 : goal.returns-then-row-lt8
-unfolding is_ground_action book_rows
-returns-then-row-lt8 c = not_other _ _ c.requires actions c.if-book-at.false _ c.row_at-row.ensures _ (lt-leb 8 _ c.if-row-lt8.true)
-
-pub is_ground-requires : goal.is_ground-requires
-unfolding book_rows
-is_ground-requires c = row_good _ _ c.requires c.if-book-at.false
+pub names-requires-clause-rows : goal.names-requires-clause-rows
+names-requires-clause-rows c = λ k below. let good = row_good _ k c.requires below in search rules
 
 pub returns : goal.returns
-unfolding is_ground_action book_rows
-returns c = by_test _ _ c.requires actions c.if-book-at.false _ c.row_at-row.ensures (le-leb 8 _ c.if-row-lt8.false) c.is_ground.ensures
+unfolding is_ground_action
+returns c = let s = c.args.book.now in
+    c.names.ensures (λ n. leb 8 n) (λ k. is_ground (tree_in (book s) k)) (λ k b post. search rules) (λ k b below post. search rules)
+    ∙ number_told s _ c.requires actions _

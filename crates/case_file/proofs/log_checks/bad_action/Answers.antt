@@ -1,14 +1,13 @@
 -- `bad_action` meets its contract: absent is no fault, and any other number has to be a ground action's. Assumes nothing.
-use mathlib.Core.Path.{ap}
-use mathlib.Core.Bool.{not}
-use borrow.Author.Tests.{eq-eqb, ne_eqb}
+use Rattle.std.proofs.Common.{arith}
+use Rattle.std.proofs.lemmas.Bool.Decides.{nat_tests}
 use Rattle.definition.specs.15-Records.{bad_action}
 use Rattle.case_file.proofs.log_checks.bad_action.Goals as goal
 
-pub returns-then-action-eq-ABSENT : goal.returns-then-action-eq-ABSENT
+pub returns-then-action-ne-ABSENT : goal.returns-then-action-ne-ABSENT
 unfolding bad_action
-returns-then-action-eq-ABSENT c = rw (eq-eqb _ _ c.if-action-eq-ABSENT.true)
+returns-then-action-ne-ABSENT c = grind (arith, nat_tests)
 
-pub returns : goal.returns
+pub returns-else-action-ne-ABSENT : goal.returns-else-action-ne-ABSENT
 unfolding bad_action
-returns c = rw (ne_eqb _ _ c.if-action-eq-ABSENT.false) (ap not c.ground_action.ensures)
+returns-else-action-ne-ABSENT c = grind (arith, nat_tests)

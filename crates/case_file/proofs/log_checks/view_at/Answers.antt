@@ -1,17 +1,18 @@
--- `view_at` meets its contract: the branches are the definition's, in order. Assumes nothing.
-use borrow.Author.Tests.{eq-eqb, ne_eqb}
+-- `view_at` meets its contract: the arms are the definition's cases, in order. Assumes nothing.
+use Rattle.std.proofs.Common.{arith}
+use Rattle.std.proofs.lemmas.Bool.Decides.{nat_tests}
 use Rattle.case_file.specs.Seen.{code_view}
 use Rattle.case_file.specs.Meanings.{view_meant}
 use Rattle.case_file.proofs.log_checks.view_at.Goals as goal
 
-pub returns-then-code : goal.returns-then-code
+pub returns-in-65534 : goal.returns-in-65534
 unfolding code_view view_meant
-returns-then-code c l = rw (eq-eqb _ _ c.if-code.true)
+returns-in-65534 c l = grind (arith, nat_tests)
 
-pub returns-then-code-2 : goal.returns-then-code-2
+pub returns-in-65535 : goal.returns-in-65535
 unfolding code_view view_meant
-returns-then-code-2 c l = rw (ne_eqb _ _ c.if-code.false, eq-eqb _ _ c.if-code-2.true)
+returns-in-65535 c l = grind (arith, nat_tests)
 
-pub returns : goal.returns
+pub returns-in_default : goal.returns-in_default
 unfolding code_view view_meant
-returns c l = rw (ne_eqb _ _ c.if-code.false, ne_eqb _ _ c.if-code-2.false)
+returns-in_default c l = grind (arith, nat_tests)

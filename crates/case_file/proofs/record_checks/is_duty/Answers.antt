@@ -1,12 +1,13 @@
 -- `is_duty` meets its contract. Assumes nothing.
-use borrow.Author.Tests.{eq-eqb, ne_eqb}
+use Rattle.std.proofs.Common.{arith}
+use Rattle.std.proofs.lemmas.Bool.Decides.{nat_tests}
 use Rattle.definition.specs.15-Records.{is_duty}
 use Rattle.case_file.proofs.record_checks.is_duty.Goals as goal
 
-pub returns-then-mark-eq1 : goal.returns-then-mark-eq1
+pub returns-then-mark : goal.returns-then-mark
 unfolding is_duty
-returns-then-mark-eq1 c = rw (eq-eqb _ 1 c.if-mark-eq1.true)
+returns-then-mark c = grind (arith, nat_tests)
 
-pub returns : goal.returns
+pub returns-else-mark : goal.returns-else-mark
 unfolding is_duty
-returns c = rw (ne_eqb _ 1 c.if-mark-eq1.false)
+returns-else-mark c = grind (arith, nat_tests)

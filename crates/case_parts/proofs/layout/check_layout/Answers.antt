@@ -1,27 +1,28 @@
--- `check_layout` meets its contract: the branches are checks 1 and 2, in order. Assumes nothing.
-use mathlib.Core.Path.{◌≡◌, refl, sym, ◌∙◌}
+-- `check_layout` meets its contract: checks 1 and 2, in order. Assumes nothing.
+use Rattle.std.proofs.Common.{rules, Err}
+use mathlib.Core.Path.{◌≡◌, sym, ap, ◌∙◌}
 use mathlib.Core.Bool.{false}
-use Rattle.definition.proofs.CheckLaws.{lowest_fails, lowest_holds, goes_on, stops, hold_all}
+use Rattle.definition.proofs.CheckLaws.{try_accepts}
 use Rattle.definition.proofs.PartLaws.{long_header}
-use Rattle.definition.specs.11-Layout.{bad_length, layout_checks}
-use Rattle.words.specs.Meanings.{failure_meant}
+use Rattle.definition.specs.04-Checks.{try, single}
+use Rattle.definition.specs.11-Layout.{faulty_part, bad_length, layout_checks}
+use Rattle.words.proofs.CheckRuns.{checks_stop, checks_go_on, last_check}
+use Rattle.words.specs.Meanings.{run_meant}
 use Rattle.case_parts.proofs.layout.check_layout.Goals as goal
-use Rattle.case_parts.proofs.layout.check_layout.Goals.{Else-bad_length}
 
-long : (c : Else-bad_length) → bad_length c.args.file.now ≡ false
-long c = sym c.bad_length.ensures ∙ c.if-bad_length.false
+pub returns-in_err-single : goal.returns-in_err-single
+unfolding layout_checks
+returns-in_err-single c =
+    let e : c.from_residual.result ≡ Err c.in_err-single.field-0.0 = search rules in
+    rw e (checks_stop _ _ _ (c.in_err-single.ensures ∙ ap (λ b. try (single 1 0 b)) c.bad_length.ensures))
 
-pub returns-then-bad_length : goal.returns-then-bad_length
-unfolding failure_meant layout_checks
-returns-then-bad_length c = sym (stops _ _ 1 0 (refl, refl, sym c.bad_length.ensures ∙ c.if-bad_length.true))
-
-pub first_faulty-faulty-requires : goal.first_faulty-faulty-requires
-first_faulty-faulty-requires c = (long_header _ (long c)).0
-
-pub returns-then-faulty-lt8 : goal.returns-then-faulty-lt8
-unfolding failure_meant layout_checks
-returns-then-faulty-lt8 c = sym (goes_on _ _ (long (goal.at.returns-then-faulty-lt8 c).Else-bad_length) ∙ stops _ _ 2 _ (lowest_fails 2 _ c.first_faulty-faulty.ensures c.if-faulty-lt8.true))
+pub each-requires-clause-callable : goal.each-requires-clause-callable
+unfolding run_meant
+each-requires-clause-callable c = λ k below.
+    let long : bad_length c.args.file.now ≡ false = sym c.bad_length.ensures ∙ try_accepts _ (sym c.in_ok-single.ensures) in
+    let h = long_header _ long in search rules
 
 pub returns : goal.returns
-unfolding failure_meant layout_checks
-returns c = sym (hold_all _ (long (goal.at.returns c).Else-bad_length, (lowest_holds 2 _ c.first_faulty-faulty.ensures c.if-faulty-lt8.false, tt)))
+unfolding layout_checks
+returns c = c.each.ensures (faulty_part c.args.file.now) (λ k b below post. search rules) ∙ last_check _ ∙
+    checks_go_on _ _ _ (c.in_ok-single.ensures ∙ ap (λ b. try (single 1 0 b)) c.bad_length.ensures)

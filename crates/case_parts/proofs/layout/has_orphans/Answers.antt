@@ -1,12 +1,13 @@
 -- `has_orphans` meets its contract. Assumes nothing.
-use borrow.Author.Tests.{eq-eqb, ne_eqb}
+use Rattle.std.proofs.Common.{arith}
+use Rattle.std.proofs.lemmas.Bool.Decides.{nat_tests}
 use Rattle.definition.specs.11-Layout.{orphans}
 use Rattle.case_parts.proofs.layout.has_orphans.Goals as goal
 
 pub returns-then-part_size-eq0 : goal.returns-then-part_size-eq0
 unfolding orphans
-returns-then-part_size-eq0 c = rw (← c.part_size.ensures, eq-eqb _ 0 c.if-part_size-eq0.true, c.part_size-then-part_size-eq0.ensures)
+returns-then-part_size-eq0 c = grind (arith, nat_tests)
 
-pub returns : goal.returns
+pub returns-else-part_size-eq0 : goal.returns-else-part_size-eq0
 unfolding orphans
-returns c = rw (← c.part_size.ensures, ne_eqb _ 0 c.if-part_size-eq0.false)
+returns-else-part_size-eq0 c = grind (arith, nat_tests)

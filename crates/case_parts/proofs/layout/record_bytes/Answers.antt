@@ -1,44 +1,8 @@
--- `record_bytes` meets its contract: each arm is one entry of the table. Assumes nothing.
-use mathlib.Core.Path.{sym}
-use mathlib.Core.List.{[], ◌∷◌}
-use lib.ListN.{get_or-eq_default}
-use Rattle.definition.specs.11-Layout.{row_bytes}
-use Rattle.definition.proofs.Tests.{past}
+-- `record_bytes` meets its contract: it looks into the same table. Assumes nothing.
+use Rattle.std.proofs.Common.{rules}
 use Rattle.definition.specs.11-Layout.{record_bytes}
 use Rattle.case_parts.proofs.layout.record_bytes.Goals as goal
 
-pub returns-in-0 : goal.returns-in-0
+pub returns : goal.returns
 unfolding record_bytes
-returns-in-0 c = rw c.in-0.is
-
-pub returns-in-1 : goal.returns-in-1
-unfolding record_bytes
-returns-in-1 c = rw c.in-1.is
-
-pub returns-in-2 : goal.returns-in-2
-unfolding record_bytes
-returns-in-2 c = rw c.in-2.is
-
-pub returns-in-3 : goal.returns-in-3
-unfolding record_bytes
-returns-in-3 c = rw c.in-3.is
-
-pub returns-in-4 : goal.returns-in-4
-unfolding record_bytes
-returns-in-4 c = rw c.in-4.is
-
-pub returns-in-5 : goal.returns-in-5
-unfolding record_bytes
-returns-in-5 c = rw c.in-5.is
-
-pub returns-in-6 : goal.returns-in-6
-unfolding record_bytes
-returns-in-6 c = rw c.in-6.is
-
-pub returns-in-7 : goal.returns-in-7
-unfolding record_bytes
-returns-in-7 c = rw c.in-7.is
-
-pub returns-in_default : goal.returns-in_default
-unfolding record_bytes
-returns-in_default c = sym (get_or-eq_default (row_bytes ∷ 6 ∷ 2 ∷ 2 ∷ 8 ∷ 4 ∷ 10 ∷ 2 ∷ []) 1 (past _ 8 c.args.p c.in_default.in_default-own.rest))
+returns c = search rules

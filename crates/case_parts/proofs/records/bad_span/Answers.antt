@@ -1,23 +1,17 @@
--- `bad_span` meets its contract: the branches are its three tests, in order. Assumes nothing.
-use mathlib.Core.Bool.{or-true}
-use borrow.Author.Tests.{eq-eqb, ne_eqb, lt-ltb, le-ltb}
+-- `bad_span` meets its contract. Assumes nothing.
+use Rattle.std.proofs.Common.{arith}
+use Rattle.std.proofs.lemmas.Bool.Decides.{nat_tests}
 use Rattle.definition.specs.15-Records.{span_fault}
 use Rattle.case_parts.proofs.records.bad_span.Goals as goal
 
-pub returns-then-from-due : goal.returns-then-from-due
-unfolding span_fault
-returns-then-from-due c = let a = c.args in rw (ne_eqb a.from a.due c.if-from-due.true)
-
 pub returns-then-entries-end : goal.returns-then-entries-end
 unfolding span_fault
-returns-then-entries-end c = rw (lt-ltb _ _ c.if-entries-end.true, or-true)
+returns-then-entries-end c = grind (arith, nat_tests)
 
 pub returns-then-last : goal.returns-then-last
 unfolding span_fault
-returns-then-last c = let a = c.args in
-    rw (eq-eqb a.from a.due c.if-from-due.false, le-ltb _ _ c.if-entries-end.false, c.if-last.true)
+returns-then-last c = grind (arith, nat_tests)
 
-pub returns : goal.returns
+pub returns-else-last : goal.returns-else-last
 unfolding span_fault
-returns c = let a = c.args in
-    rw (eq-eqb a.from a.due c.if-from-due.false, le-ltb _ _ c.if-entries-end.false, c.if-last.false)
+returns-else-last c = grind (arith, nat_tests)

@@ -5,14 +5,6 @@ use Rattle.definition.specs.11-Layout.{record_bytes, field}
 use Rattle.definition.specs.15-Records.{label_mark, label_formula}
 use Rattle.case_parts.proofs.records.label_at.Goals as goal
 
-pub read_word-requires : goal.read_word-requires
-unfolding record_bytes
-read_word-requires c = omega (arith, c.record_in-bytes.ensures.long)
-
-pub read_word-requires-2 : goal.read_word-requires-2
-unfolding record_bytes
-read_word-requires-2 c = omega (arith, c.record_in-bytes.ensures.long)
-
 pub returns : goal.returns
 unfolding record_bytes field label_mark label_formula
 returns c = let r = c.record_in-bytes.ensures in

@@ -4,18 +4,6 @@ use native.Mathlib.Omega.{arith}
 use Rattle.definition.specs.11-Layout.{record_bytes}
 use Rattle.case_parts.proofs.records.log_row_at.Goals as goal
 
-pub read_word-requires : goal.read_word-requires
-unfolding record_bytes
-read_word-requires c = omega (arith, c.record_of-bytes.ensures.long)
-
-pub read_word-requires-2 : goal.read_word-requires-2
-unfolding record_bytes
-read_word-requires-2 c = omega (arith, c.record_of-bytes.ensures.long)
-
-pub read_word-requires-3 : goal.read_word-requires-3
-unfolding record_bytes
-read_word-requires-3 c = omega (arith, c.record_of-bytes.ensures.long)
-
 pub returns : goal.returns
 unfolding record_bytes
 returns c = let r = c.record_of-bytes.ensures in

@@ -5,10 +5,6 @@ use Rattle.definition.specs.11-Layout.{record_bytes}
 use Rattle.definition.specs.15-Records.{observer}
 use Rattle.case_parts.proofs.records.observer.Goals as goal
 
-pub read_word-requires : goal.read_word-requires
-unfolding record_bytes
-read_word-requires c = omega (arith, c.record_of-bytes.ensures.long)
-
 pub returns : goal.returns
 unfolding record_bytes observer
 returns c = c.read_word.ensures ∙ c.record_of-bytes.ensures.field 0 (omega arith)

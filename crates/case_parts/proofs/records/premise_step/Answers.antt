@@ -5,10 +5,6 @@ use Rattle.definition.specs.11-Layout.{record_bytes, field}
 use Rattle.definition.specs.15-Records.{premise_step}
 use Rattle.case_parts.proofs.records.premise_step.Goals as goal
 
-pub read_word-requires : goal.read_word-requires
-unfolding record_bytes
-read_word-requires c = omega (arith, c.record_in-bytes.ensures.long)
-
 pub returns : goal.returns
 unfolding record_bytes field premise_step
 returns c = c.read_word.ensures ∙ c.record_in-bytes.ensures.field 0 (omega arith)

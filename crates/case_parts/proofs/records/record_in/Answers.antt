@@ -5,6 +5,3 @@ use Rattle.case_parts.proofs.records.record_in.Goals as goal
 pub record_of-requires : goal.record_of-requires
 record_of-requires c = let p = c.requires in
     rw (c.part-bytes.ensures, held_count _ p.0 _ p.1) p.2
-
-pub returns : goal.returns
-returns c = rw c.part-bytes.ensures at c.record_of.ensures

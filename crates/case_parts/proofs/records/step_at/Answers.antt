@@ -5,26 +5,6 @@ use Rattle.definition.specs.11-Layout.{record_bytes, field}
 use Rattle.definition.specs.15-Records.{step_rule, step_formula, step_argument, step_from, step_count}
 use Rattle.case_parts.proofs.records.step_at.Goals as goal
 
-pub read_word-requires : goal.read_word-requires
-unfolding record_bytes
-read_word-requires c = omega (arith, c.record_in-bytes.ensures.long)
-
-pub read_word-requires-2 : goal.read_word-requires-2
-unfolding record_bytes
-read_word-requires-2 c = omega (arith, c.record_in-bytes.ensures.long)
-
-pub read_word-requires-3 : goal.read_word-requires-3
-unfolding record_bytes
-read_word-requires-3 c = omega (arith, c.record_in-bytes.ensures.long)
-
-pub read_word-requires-4 : goal.read_word-requires-4
-unfolding record_bytes
-read_word-requires-4 c = omega (arith, c.record_in-bytes.ensures.long)
-
-pub read_word-requires-5 : goal.read_word-requires-5
-unfolding record_bytes
-read_word-requires-5 c = omega (arith, c.record_in-bytes.ensures.long)
-
 pub returns : goal.returns
 unfolding record_bytes field step_rule step_formula step_argument step_from step_count
 returns c = let r = c.record_in-bytes.ensures in

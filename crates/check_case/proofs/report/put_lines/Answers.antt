@@ -8,20 +8,20 @@ use Rattle.check_case.proofs.Lines.{lines_more}
 use Rattle.check_case.proofs.Lengths.{lines_most}
 use Rattle.check_case.proofs.report.put_lines.Goals as goal
 
-pub loop-i-init : goal.loop-i-init
+pub loop-entry-init : goal.loop-entry-init
 unfolding lines
-loop-i-init c = nothing _ _
+loop-entry-init c = nothing _ _
 
 pub put_line-end-requires : goal.put_line-end-requires
 put_line-end-requires c =
     let a = c.args in
-    let l = c.loop-i in
-    let most : length (lines a.word.now (take l.i a.entries.now)) ≤ 11 * l.i =
-    omega (arith, lines_most a.word.now (take l.i a.entries.now) (omega arith), length-take-le l.i a.entries.now (omega arith)) in
-    room_left l.invariant (11 * l.i) (length a.word.now + 6) most (omega arith)
+    let l = c.loop-entry in
+    let most : length (lines a.word.now (take l.entry-index a.entries.now)) ≤ 11 * l.entry-index =
+    omega (arith, lines_most a.word.now (take l.entry-index a.entries.now) (omega arith), length-take-le l.entry-index a.entries.now (omega arith)) in
+    room_left l.invariant (11 * l.entry-index) (length a.word.now + 6) most (omega arith)
 
-pub loop-i-preserved : goal.loop-i-preserved
-loop-i-preserved c =
+pub loop-entry-preserved : goal.loop-entry-preserved
+loop-entry-preserved c =
     let a = c.args in
     let w = c.put_line-end in
-    subst (λ (t : List ℕ). Written a.out.now a.at t w.new.out w.result) (lines_more a.word.now a.entries.now c.loop-i.i (omega arith)) (and_then c.loop-i.invariant w.ensures)
+    subst (λ (t : List ℕ). Written a.out.now a.at t w.new.out w.result) (lines_more a.word.now a.entries.now c.loop-entry.entry-index (omega arith)) (and_then c.loop-entry.invariant w.ensures)

@@ -1,23 +1,25 @@
 -- `check` meets its contract: the admission, and what follows it; demand 3 comes with the outcome. Assumes nothing.
-use mathlib.Core.Path.{refl, sym, ap, ◌∙◌}
-use native.Mathlib.Omega.{arith}
-use Rattle.words.specs.Meanings.{failure_meant}
+use Rattle.std.proofs.Common.{rules, arith, refl, Err, ◌≡◌}
+use mathlib.Core.Path.{sym}
 use Rattle.definition.proofs.AdmissionLaws.{admitted_parted}
-use Rattle.checker.proofs.ReportLaws.{case_lent, answered_refused, answered_admitted}
+use Rattle.definition.specs.18-Admission.{admission}
+use Rattle.definition.specs.31-Outcome.{finding, all_checks}
+use Rattle.words.specs.Meanings.{run_meant}
+use Rattle.checker.proofs.ReportLaws.{stop_on, stop_reported, case_lent, answered, answered_admitted}
 use Rattle.checker.proofs.checks.check.Goals as goal
 
-pub part-book-requires : goal.part-book-requires
-unfolding failure_meant
-part-book-requires c = (admitted_parted _ (sym c.admit_into-admission.ensures.0 ∙ ap failure_meant c.in-None.is), omega arith)
+pub returns-in_err-admit_into : goal.returns-in_err-admit_into
+unfolding finding all_checks admission
+returns-in_err-admit_into c =
+    let e : c.from_residual.result ≡ Err c.in_err-admit_into.field-0.0 = search rules in
+    rw e (answered _ _ _ _ (stop_reported _ _ _ _ (stop_on _ _ _ c.in_err-admit_into.ensures.0)))
 
-pub check_admitted-requires : goal.check_admitted-requires
-unfolding failure_meant
-check_admitted-requires c = case_lent _ _ _ _ (sym c.admit_into-admission.ensures.0 ∙ ap failure_meant c.in-None.is) c.part-book.ensures refl c.admit_into-admission.ensures.1
+pub part-requires : goal.part-requires
+unfolding run_meant
+part-requires c = (admitted_parted _ (sym c.in_ok-admit_into.ensures.0), omega arith)
 
-pub returns-in-At : goal.returns-in-At
-unfolding failure_meant
-returns-in-At c = answered_refused _ _ _ _ (sym (ap failure_meant c.in-At.is) ∙ c.admit_into-admission.ensures.0)
+pub invariant_of-case : goal.invariant_of-case
+invariant_of-case c = record { lent = case_lent _ _ _ _ c.in_ok-admit_into.ensures.0 c.part.ensures refl c.in_ok-admit_into.ensures.1 }
 
-pub returns-in-None : goal.returns-in-None
-unfolding failure_meant
-returns-in-None c = answered_admitted _ _ _ _ (sym (ap failure_meant c.in-None.is) ∙ c.admit_into-admission.ensures.0) c.check_admitted.ensures
+pub returns : goal.returns
+returns c = answered_admitted _ _ _ _ c.in_ok-admit_into.ensures.0 c.check_admitted.ensures

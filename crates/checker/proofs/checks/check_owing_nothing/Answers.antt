@@ -1,13 +1,14 @@
 -- `check_owing_nothing` meets its contract: the duties, and then "none owed". Assumes nothing.
-use mathlib.Core.Path.{sym, ap, ◌∙◌}
-use Rattle.words.specs.Meanings.{failure_meant}
-use Rattle.checker.proofs.ReportLaws.{duties_refused, none_owed_reported}
+use Rattle.std.proofs.Common.{rules, Err, ◌≡◌}
+use Rattle.checker.proofs.ReportLaws.{stop_reported, none_owed_reported}
+use Rattle.checker.specs.Reports.{owing_nothing}
 use Rattle.checker.proofs.checks.check_owing_nothing.Goals as goal
 
-pub returns-in-At : goal.returns-in-At
-unfolding failure_meant
-returns-in-At c room = duties_refused _ room _ _ (sym (ap failure_meant c.in-At.is) ∙ c.check_duties-duties.ensures)
+pub returns-in_err-check_duties : goal.returns-in_err-check_duties
+unfolding owing_nothing
+returns-in_err-check_duties c room =
+    let e : c.from_residual.result ≡ Err c.in_err-check_duties.field-0.0 = search rules in
+    rw e (stop_reported _ _ _ room c.in_err-check_duties.ensures)
 
-pub returns-in-None : goal.returns-in-None
-unfolding failure_meant
-returns-in-None c room = none_owed_reported _ room (sym (ap failure_meant c.in-None.is) ∙ c.check_duties-duties.ensures)
+pub returns : goal.returns
+returns c room = none_owed_reported _ room c.in_ok-check_duties.ensures

@@ -1,81 +1,82 @@
--- `check_closing` meets its contract: the branches are checks 20 to 22, in order. Assumes nothing.
+-- `check_closing` meets its contract: checks 20 to 22, in order. Assumes nothing.
+use Rattle.std.proofs.Common.{rules, arith, Err, Ok, ◌≡◌}
 use Prim.Native.Nat.{◌-◌, ◌≤◌}
-use mathlib.Core.Path.{◌≡◌, refl, sym, ap, ◌∙◌}
-use mathlib.Core.Bool.{Bool, not}
+use mathlib.Core.Path.{ap, ◌∙◌}
+use mathlib.Core.Bool.{Bool}
 use mathlib.Core.List.{List}
-use native.Mathlib.Omega.{arith}
-use Rattle.definition.proofs.CheckLaws.{lowest_fails, lowest_holds, goes_on, stops, hold_all}
-use Rattle.definition.specs.02-Ranges.{lowest}
-use Rattle.definition.specs.04-Checks.{Holds, each}
+use Rattle.definition.specs.04-Checks.{try, single, each}
+use Rattle.definition.specs.11-Layout.{step_part, count}
 use Rattle.definition.specs.17-Case.{case_of}
 use Rattle.definition.specs.31-Outcome.{last_step, unused_step, open_label, closing_checks}
-use Rattle.tables.specs.Sets.{opens_of, used_of}
-use Rattle.words.specs.Meanings.{failure_meant}
+use Rattle.words.specs.Meanings.{run_meant}
 use Rattle.steps.specs.WorkingTables.{state_of}
+use Rattle.tables.specs.Sets.{labels_of, opens_of}
 use Rattle.case_file.proofs.LentCaseLaws.{parted, steps_few, labels_few}
+use Rattle.words.proofs.CheckRuns.{checks_stop, checks_go_on, last_check}
 use Rattle.checker.proofs.ending.check_closing.Goals as goal
-use Rattle.checker.proofs.ending.check_closing.Goals.{After-first_open-label, After-first_unused-unused}
+use Rattle.checker.proofs.ending.check_closing.Goals.{After-count_of-labels, In_ok-each}
 
-last_is : (f : After-first_unused-unused) → f.count_of-last.result - 1 ≡ last_step (case_of f.args.file.now)
-unfolding last_step case_of
-last_is f = ap (λ n. n - 1) f.count_of-last.ensures.0
+few_steps : (c : After-count_of-labels) → c.count_of-last.result ≤ 2048
+few_steps c = omega (arith, c.count_of-last.ensures.0, steps_few _ (parted c.args.case.now.lent.lent))
 
-few : (f : After-first_unused-unused) → f.count_of-last.result ≤ 2048
-few f = omega (arith, f.count_of-last.ensures.0, steps_few _ (parted f.requires.lent))
+few_labels : (c : After-count_of-labels) → c.count_of-labels.result ≤ 32
+few_labels c = omega (arith, c.count_of-labels.ensures.0, labels_few _ (parted c.args.case.now.lent.lent))
 
-unused_is :
-    (f : After-first_unused-unused) (d e : List Bool) →
-    f.first_unused-unused.result ≡ lowest (unused_step (state_of f.args.left.now d e)) (last_step (case_of f.args.file.now)) 0
-unfolding unused_step state_of
-unused_is f d e = f.first_unused-unused.ensures ∙ ap (λ n. lowest (λ k. not (used_of f.args.left.now k)) n 0) (last_is f)
-
-open_is :
-    (o : After-first_open-label) (d e : List Bool) →
-    o.first_open-label.result
-    ≡ lowest (open_label (case_of o.args.file.now) (state_of o.args.left.now d e)) (case_of o.args.file.now).labels 0
-unfolding open_label state_of case_of last_step
-open_is o d e =
-    o.first_open-label.ensures
-    ∙ ap (λ ls. lowest ls o.count_of-labels.result 0) o.opens_at.ensures
-    ∙ (λ i. lowest (opens_of o.args.left.now ((ap (λ n. n - 1) o.count_of-last.ensures.0) i)) (o.count_of-labels.ensures.0 i) 0)
-
--- Check 20 holds.
-hold_20 : (o : After-first_open-label) (d e : List Bool) → Holds (each 20 (last_step (case_of o.args.file.now)) (unused_step (state_of o.args.left.now d e)))
+-- Check 20, where it lets the case pass.
+unused_passed :
+    (c : In_ok-each) (d e : List Bool) →
+    run_meant (Ok c.in_ok-each.field-0) ≡ try (each 20 (last_step (case_of c.args.case.now.file.now)) (unused_step (state_of c.args.left.now d e)))
 unfolding unused_step state_of last_step case_of
-hold_20 o d e = lowest_holds 20 _ (o.first_unused-unused.ensures ∙ ap (λ n. lowest (λ k. not (used_of o.args.left.now k)) n 0) (ap (λ n. n - 1) o.count_of-last.ensures.0)) (omega (arith, o.if-unused-last.false, (ap (λ n. n - 1) o.count_of-last.ensures.0)))
+unused_passed c d e =
+    let test = unused_step (state_of c.args.left.now d e) in
+    c.in_ok-each.ensures test (λ k b below post. search rules) ∙ ap (λ n. try (each 20 (n - 1) test)) c.count_of-last.ensures.0
 
-pub first_unused-unused-requires : goal.first_unused-unused-requires
-first_unused-unused-requires c = omega (arith, c.count_of-last.ensures.0, steps_few _ (parted c.requires.lent))
+-- Check 21, by the labels that the last step leaves open.
+open_labels_are :
+    (c : In_ok-each) (d e : List Bool) →
+    try (each 21 c.count_of-labels.result (labels_of c.opens_at-open_labels.result.bits))
+    ≡ try (each 21 (case_of c.args.case.now.file.now).labels (open_label (case_of c.args.case.now.file.now) (state_of c.args.left.now d e)))
+unfolding open_label last_step case_of state_of
+open_labels_are c d e =
+    ap (λ t. try (each 21 c.count_of-labels.result t)) (c.opens_at-open_labels.ensures ∙ ap (λ n. opens_of c.args.left.now (n - 1)) c.count_of-last.ensures.0)
+    ∙ ap (λ n. try (each 21 n (opens_of c.args.left.now (count c.args.case.now.file.now step_part - 1)))) c.count_of-labels.ensures.0
 
-pub overflow_cast-result : goal.overflow_cast-result
-overflow_cast-result c = omega (arith, c.if-unused-last.true, few (goal.at.overflow_cast-result c).After-first_unused-unused)
+pub opens_at-open_labels-requires : goal.opens_at-open_labels-requires
+opens_at-open_labels-requires c = omega (arith, few_steps c, c.requires.0, c.count_of-last.ensures.0)
 
-pub returns-then-unused-last : goal.returns-then-unused-last
-unfolding failure_meant closing_checks
-returns-then-unused-last c d e = sym (stops _ _ 20 _ (lowest_fails 20 _ (unused_is (goal.at.returns-then-unused-last c).After-first_unused-unused d e) (rw (sym (last_is (goal.at.returns-then-unused-last c).After-first_unused-unused)) c.if-unused-last.true)))
+pub each-requires-clause-fits : goal.each-requires-clause-fits
+each-requires-clause-fits c = omega (arith, few_steps (goal.at.each-requires-clause-fits c).After-count_of-labels)
 
-pub opens_at-requires : goal.opens_at-requires
-opens_at-requires c = omega (arith, few (goal.at.opens_at-requires c).After-first_unused-unused)
+pub each-requires-clause-callable : goal.each-requires-clause-callable
+each-requires-clause-callable c = λ k below. let few = few_steps (goal.at.each-requires-clause-callable c).After-count_of-labels in search rules
 
-pub first_open-label-requires : goal.first_open-label-requires
-first_open-label-requires c = omega (arith, c.count_of-labels.ensures.0, labels_few _ (parted c.requires.lent))
+pub returns-in_err-each : goal.returns-in_err-each
+unfolding closing_checks unused_step state_of last_step case_of
+returns-in_err-each c d e =
+    let is : c.from_residual.result ≡ Err c.in_err-each.field-0.0 = search rules in
+    let test = unused_step (state_of c.args.left.now d e) in
+    rw is (checks_stop _ _ _ (c.in_err-each.ensures test (λ k b below post. search rules) ∙ ap (λ n. try (each 20 (n - 1) test)) c.count_of-last.ensures.0))
 
-pub overflow_cast-result-then-label-labels : goal.overflow_cast-result-then-label-labels
-overflow_cast-result-then-label-labels c = omega (arith, c.if-label-labels.true, c.count_of-labels.ensures.0, labels_few _ (parted c.requires.lent))
+pub each-requires-2-clause-fits : goal.each-requires-2-clause-fits
+each-requires-2-clause-fits c = omega (arith, few_labels (goal.at.each-requires-2-clause-fits c).After-count_of-labels)
 
-pub returns-then-label-labels : goal.returns-then-label-labels
-unfolding failure_meant case_of closing_checks
-returns-then-label-labels c d e = sym (goes_on _ _ (hold_20 (goal.at.returns-then-label-labels c).After-first_open-label d e) ∙ stops _ _ 21 _ (lowest_fails 21 _ (open_is (goal.at.returns-then-label-labels c).After-first_open-label d e) (rw (sym c.count_of-labels.ensures.0) c.if-label-labels.true)))
+pub each-requires-2-clause-callable : goal.each-requires-2-clause-callable
+each-requires-2-clause-callable c = λ k below. let few = few_labels (goal.at.each-requires-2-clause-callable c).After-count_of-labels in search rules
 
-pub overflow_cast-result-then-wrong_end : goal.overflow_cast-result-then-wrong_end
-overflow_cast-result-then-wrong_end c = omega (arith, few (goal.at.overflow_cast-result-then-wrong_end c).After-first_unused-unused)
+pub returns-in_err-each-2 : goal.returns-in_err-each-2
+unfolding closing_checks
+returns-in_err-each-2 c d e =
+    let is : c.from_residual-in_err-each-2.result ≡ Err c.in_err-each-2.field-0.0 = search rules in
+    let k = (goal.at.returns-in_err-each-2 c).In_ok-each in
+    rw is (checks_stop _ _ _ (c.in_err-each-2.ensures (labels_of c.opens_at-open_labels.result.bits) (λ l b below post. search rules) ∙ open_labels_are k d e) ∙ checks_go_on _ _ _ (unused_passed k d e))
 
-pub returns-then-wrong_end : goal.returns-then-wrong_end
-unfolding failure_meant case_of closing_checks
-returns-then-wrong_end c d e = let hold_21 = lowest_holds 21 _ (open_is (goal.at.returns-then-wrong_end c).After-first_open-label d e) (omega (arith, c.count_of-labels.ensures.0, c.if-label-labels.false)) in
-    sym (goes_on _ _ (hold_20 (goal.at.returns-then-wrong_end c).After-first_open-label d e) ∙ goes_on _ _ hold_21 ∙ stops _ _ 22 _ (refl, sym (last_is (goal.at.returns-then-wrong_end c).After-first_unused-unused), sym c.wrong_end.ensures ∙ c.if-wrong_end.true))
+pub overflow_cast-last : goal.overflow_cast-last
+overflow_cast-last c = omega (arith, few_steps (goal.at.overflow_cast-last c).After-count_of-labels)
 
 pub returns : goal.returns
-unfolding failure_meant case_of closing_checks
-returns c d e = let hold_21 = lowest_holds 21 _ (open_is (goal.at.returns c).After-first_open-label d e) (omega (arith, c.count_of-labels.ensures.0, c.if-label-labels.false)) in
-    sym (hold_all _ (hold_20 (goal.at.returns c).After-first_open-label d e, (hold_21, (sym c.wrong_end.ensures ∙ c.if-wrong_end.false, tt))))
+unfolding closing_checks last_step case_of
+returns c d e =
+    let k = (goal.at.returns c).In_ok-each in
+    let ended = c.single.ensures ∙ (λ i. try (single 22 (c.count_of-last.ensures.0 i - 1) (c.wrong_end.ensures i))) ∙ last_check _ in
+    let opened = c.in_ok-each-2.ensures (labels_of c.opens_at-open_labels.result.bits) (λ l b below post. search rules) ∙ open_labels_are k d e in
+    ended ∙ checks_go_on _ _ _ opened ∙ checks_go_on _ _ _ (unused_passed k d e)

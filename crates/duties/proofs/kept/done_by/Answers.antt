@@ -1,38 +1,40 @@
 -- `done_by` meets its contract: no row named, or what the table of views has for the row. Assumes nothing.
-use mathlib.Core.Path.{◌≡◌, sym, ap, ◌∙◌}
+use Rattle.std.proofs.Common.{ℕ, List}
+use mathlib.Core.Path.{◌≡◌, refl, ap, ◌∙◌}
+use mathlib.Core.Bool.{false, not}
 use native.Mathlib.Omega.{arith}
-use lib.ListN.{get_or}
+use borrow.Author.Tests.{eq-eqb}
+use Rattle.definition.specs.13-Formulas.{Formula}
 use Rattle.definition.specs.14-Book.{tree_in}
 use Rattle.definition.specs.15-Records.{formulas}
 use Rattle.definition.specs.23-Duties.{carries}
 use Rattle.case_file.specs.Meanings.{view_meant}
-use Rattle.case_file.specs.Seen.{code_view}
 use Rattle.case_file.specs.declared.log_checks.View.{View}
+use Rattle.case_file.specs.declared.log_checks.View.TheVariants as view
 use Rattle.case_file.proofs.LentCaseLaws.{parted, rows_few}
 use Rattle.duties.proofs.DoneDuties.{not_named, inside, done_viewed, done_shown}
 use Rattle.duties.proofs.kept.done_by.Goals as goal
-use Rattle.duties.proofs.kept.done_by.Goals.{After-view_at-view}
 
--- What the table has for the row.
-viewed : (v : After-view_at-view) {w : View} → v.view_at-view.result ≡ w → view_meant (formulas v.args.file.now) w ≡ code_view (formulas v.args.file.now) (get_or v.args.views.now v.args.row 0)
-viewed v e = let l = formulas v.args.file.now in ap (view_meant l) (sym e) ∙ v.view_at-view.ensures l
-
-pub returns-then-row-eq-ABSENT : goal.returns-then-row-eq-ABSENT
-returns-then-row-eq-ABSENT c = let a = c.args in
-    not_named a.file.now a.row (tree_in (formulas a.file.now) a.action) c.if-row-eq-ABSENT.true
-
-pub view_at-view-requires : goal.view_at-view-requires
-view_at-view-requires c = let lent = c.requires.case_lent in
-    (omega (arith, inside lent c.args.row c.requires.row_value.0 c.if-row-eq-ABSENT.false, rows_few _ (parted lent.lent)), lent.long)
-
-pub returns-in-Hidden : goal.returns-in-Hidden
+-- Where no action is shown.
+not_shown : (l : List Formula) (w : View) → ((x : ℕ) → w ≡ view.Shows x → ⊥) → (f : Formula) → false ≡ carries (view_meant l w) f
 unfolding view_meant carries
-returns-in-Hidden c = done_viewed c.requires.case_lent c.args.row c.requires.row_value.0 c.if-row-eq-ABSENT.false (viewed (goal.at.returns-in-Hidden c).After-view_at-view c.in-Hidden.is) _
+not_shown l view.Hidden none f = refl
+not_shown l view.Struck none f = refl
+not_shown l (view.Shows x) none f = absurd (none x refl)
 
-pub returns-in-Struck : goal.returns-in-Struck
-unfolding view_meant carries
-returns-in-Struck c = done_viewed c.requires.case_lent c.args.row c.requires.row_value.0 c.if-row-eq-ABSENT.false (viewed (goal.at.returns-in-Struck c).After-view_at-view c.in-Struck.is) _
+pub view_at-requires : goal.view_at-requires
+view_at-requires c = let lent = c.args.case.now.lent in
+    (omega (arith, inside lent c.args.row c.requires.row_value.0 c.if-row-ne-ABSENT.true, rows_few _ (parted lent.lent)), lent.long)
+
+pub returns-in_default : goal.returns-in_default
+returns-in_default c =
+    not_shown _ c.view_at.result c.in_default.not-Shows _ ∙ done_viewed c.args.case.now.lent c.args.row c.requires.row_value.0 c.if-row-ne-ABSENT.true (c.view_at.ensures _) _
 
 pub returns-in-Shows : goal.returns-in-Shows
 unfolding view_meant
-returns-in-Shows c = done_shown c.requires.case_lent c.args.row c.requires.row_value.0 c.if-row-eq-ABSENT.false _ _ (viewed (goal.at.returns-in-Shows c).After-view_at-view c.in-Shows.is) c.requires.row_value.1
+returns-in-Shows c =
+    done_shown c.args.case.now.lent c.args.row c.requires.row_value.0 c.if-row-ne-ABSENT.true _ _ (c.in-Shows.ensures (formulas c.args.case.now.file.now)) c.requires.row_value.1
+
+pub returns-else-row-ne-ABSENT : goal.returns-else-row-ne-ABSENT
+returns-else-row-ne-ABSENT c = let a = c.args in
+    ap not (eq-eqb a.row 65535 c.if-row-ne-ABSENT.false) ∙ not_named a.case.now.file.now a.row (tree_in (formulas a.case.now.file.now) a.action) c.if-row-ne-ABSENT.false

@@ -12,15 +12,15 @@ use Rattle.duties.proofs.kept.undone.Goals as goal
 
 pub done_by-requires : goal.done_by-requires
 done_by-requires c = let duty = c.obligation_at-duty.ensures in
-    let is = c.requires.0.lent.admitted in
-    record { case_lent = c.requires.0; row_value = (rw duty.row (row_named_good _ is _ c.requires.1), rw duty.action (obligation_named _ is _ c.requires.1)) }
+    let is = c.args.case.now.lent.lent.admitted in
+    record { row_value = (rw duty.row (row_named_good _ is _ c.requires), rw duty.action (obligation_named _ is _ c.requires)) }
 
 pub returns-then-duty-hour_of : goal.returns-then-duty-hour_of
 unfolding undone is_expired is_done case_of
 returns-then-duty-hour_of c = let duty = c.obligation_at-duty.ensures in
-    rw (lt-ltb (obligation_due c.args.file.now c.args.o) (hour_of c.args.file.now) (omega (arith, c.if-duty-hour_of.true, duty.due, c.hour_of.ensures)), ← duty.row, ← duty.action) (ap not c.done_by.ensures)
+    rw (lt-ltb (obligation_due c.args.case.now.file.now c.args.o) (hour_of c.args.case.now.file.now) (omega (arith, c.if-duty-hour_of.true, duty.due, c.hour_of.ensures)), ← duty.row, ← duty.action) (ap not c.done_by.ensures)
 
-pub returns : goal.returns
+pub returns-else-duty-hour_of : goal.returns-else-duty-hour_of
 unfolding undone is_expired case_of
-returns c = let duty = c.obligation_at-duty.ensures in
-    rw (le-ltb (obligation_due c.args.file.now c.args.o) (hour_of c.args.file.now) (omega (arith, c.if-duty-hour_of.false, duty.due, c.hour_of.ensures)))
+returns-else-duty-hour_of c = let duty = c.obligation_at-duty.ensures in
+    rw (← duty.due, ← c.hour_of.ensures, le-ltb _ _ c.if-duty-hour_of.false)

@@ -1,48 +1,46 @@
--- `admit_into` meets its contract: each return is one branch of the definition's admission, and the column is the definition's. Assumes nothing.
-use borrow.Author.Rules.{rules}
-use mathlib.Core.Path.{◌≡◌, refl, sym}
+-- `admit_into` meets its contract: checks 2 to 4, in order, and the column is the definition's. Assumes nothing.
+use Rattle.std.proofs.Common.{rules, Ok, Err}
+use mathlib.Core.Path.{◌≡◌, refl, sym, ap, ◌∙◌}
 use mathlib.Core.Bool.{false}
-use Rattle.definition.proofs.SizeColumns.{column_kept, column_below}
-use Rattle.definition.specs.14-Book.{book_rows, is_misshapen}
-use Rattle.words.specs.Meanings.{failure_meant}
-use Rattle.formula_book.proofs.BookBranches.{ragged, too_long, shapely, refused_misshapen, refused_bad, refused_repeat, book_passes}
+use Rattle.definition.proofs.CheckLaws.{try_accepts, try_refuses}
+use Rattle.definition.proofs.SizeColumns.{column_kept, column_below, few_rows}
+use Rattle.definition.specs.04-Checks.{try, single}
+use Rattle.definition.specs.14-Book.{is_misshapen, book_checks, book_admission}
+use Rattle.words.proofs.CheckRuns.{checks_stop, checks_go_on, last_check}
+use Rattle.words.specs.Meanings.{run_meant}
 use Rattle.formula_book.proofs.admission.admit_into.Goals as goal
-use Rattle.formula_book.proofs.admission.admit_into.Goals.{After-first_bad-bad}
+use Rattle.formula_book.proofs.admission.admit_into.Goals.{In_ok-single}
 
-whole : (c : After-first_bad-bad) → is_misshapen c.args.book.now ≡ false
-unfolding book_rows
-whole c = shapely _ c.if-book-ne0.false c.if-count-gt1024.false
+-- Check 2 holds, so the bytes are whole rows, and few.
+first : (c : In_ok-single) → run_meant (Ok c.in_ok-single.field-0) ≡ try (single 2 0 (is_misshapen c.args.book.now))
+first c = c.in_ok-single.ensures ∙ ap (λ b. try (single 2 0 b)) c.is_misshapen.ensures
 
-pub returns-then-book-ne0 : goal.returns-then-book-ne0
-unfolding failure_meant
-returns-then-book-ne0 c = let bad = ragged c.args.book.now c.if-book-ne0.true in
-    (refused_misshapen _ bad, sym (column_kept _ _ bad))
+whole : (c : In_ok-single) → is_misshapen c.args.book.now ≡ false
+unfolding run_meant
+whole c = try_accepts (single 2 0 (is_misshapen c.args.book.now)) (sym (first c))
 
-pub returns-then-count-gt1024 : goal.returns-then-count-gt1024
-unfolding failure_meant book_rows
-returns-then-count-gt1024 c = let bad = too_long c.args.book.now c.if-book-ne0.false c.if-count-gt1024.true in
-    (refused_misshapen _ bad, sym (column_kept _ _ bad))
+pub returns-in_err-single : goal.returns-in_err-single
+unfolding run_meant book_admission
+returns-in_err-single c =
+    let e : c.from_residual.result ≡ Err c.in_err-single.field-0.0 = search rules in
+    let is = c.in_err-single.ensures ∙ ap (λ b. try (single 2 0 b)) c.is_misshapen.ensures in
+    (rw e (checks_stop _ _ _ is), sym (column_kept _ _ (try_refuses (single 2 0 (is_misshapen c.args.book.now)) _ _ (sym is)).2))
 
-pub first_bad-bad-requires : goal.first_bad-bad-requires
-unfolding book_rows
-first_bad-bad-requires c = record { n_value = (refl, c.if-count-gt1024.false); sizes_len = c.requires }
+pub check_rows-requires : goal.check_rows-requires
+check_rows-requires c = (few_rows _ (whole (goal.at.check_rows-requires c).In_ok-single), c.requires)
 
-pub shape_of-sizes-then-bad-count : goal.shape_of-sizes-then-bad-count
-shape_of-sizes-then-bad-count c = search rules
+pub returns-in_err-check_rows : goal.returns-in_err-check_rows
+unfolding book_admission book_checks
+returns-in_err-check_rows c =
+    let ok = (goal.at.returns-in_err-check_rows c).In_ok-single in
+    let e : c.from_residual-in_err-check_rows.result ≡ Err c.in_err-check_rows.field-0.0 = search rules in
+    (rw e (checks_stop _ _ _ c.in_err-check_rows.ensures.0 ∙ checks_go_on _ _ _ (first ok)), column_below _ _ c.requires (whole ok) refl c.check_rows.ensures.1)
 
--- Where `first_bad` has filled the column, the bytes are whole rows, and few.
-
-pub returns-then-bad-count : goal.returns-then-bad-count
-unfolding failure_meant book_rows
-returns-then-bad-count c = let bad = c.first_bad-bad.ensures in
-    (refused_bad c.args.book.now c.if-book-ne0.false c.if-count-gt1024.false bad.0 c.if-bad-count.true, column_below _ _ c.requires (whole (goal.at.returns-then-bad-count c).After-first_bad-bad) bad.0 bad.1)
-
-pub returns-then-again-count : goal.returns-then-again-count
-unfolding failure_meant book_rows
-returns-then-again-count c = let bad = c.first_bad-bad.ensures in
-    (refused_repeat c.args.book.now c.if-book-ne0.false c.if-count-gt1024.false bad.0 c.if-bad-count.false c.first_repeat-again.ensures c.if-again-count.true, column_below _ _ c.requires (whole (goal.at.returns-then-again-count c).After-first_bad-bad) bad.0 bad.1)
+pub check_repeats-requires : goal.check_repeats-requires
+check_repeats-requires c = few_rows _ (whole (goal.at.check_repeats-requires c).In_ok-single)
 
 pub returns : goal.returns
-unfolding failure_meant book_rows
-returns c = let bad = c.first_bad-bad.ensures in
-    (book_passes c.args.book.now c.if-book-ne0.false c.if-count-gt1024.false bad.0 c.if-bad-count.false c.first_repeat-again.ensures c.if-again-count.false, column_below _ _ c.requires (whole (goal.at.returns c).After-first_bad-bad) bad.0 bad.1)
+unfolding book_admission book_checks
+returns c =
+    let ok = (goal.at.returns c).In_ok-single in
+    (c.check_repeats.ensures ∙ last_check _ ∙ checks_go_on _ _ _ c.in_ok-check_rows.ensures.0 ∙ checks_go_on _ _ _ (first ok), column_below _ _ c.requires (whole ok) refl c.check_rows.ensures.1)

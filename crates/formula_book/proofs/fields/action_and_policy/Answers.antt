@@ -1,23 +1,14 @@
--- `action_and_policy` meets its contract: the branches are its four tests, in order. Assumes nothing.
-use mathlib.Core.Path.{sym, ◌∙◌}
-use mathlib.Core.Bool.{and-false}
-use borrow.Author.Tests.{eq-eqb, ne_eqb}
-use Rattle.definition.specs.14-Book.{action_and_policy, in_place}
-use Rattle.formula_rows.specs.Meanings.{row_meant, sort_meant}
+-- `action_and_policy` meets its contract. Assumes nothing.
+use Rattle.std.proofs.Common.{rules}
+use Rattle.definition.specs.14-Book.{action_and_policy, action_below, policy_below}
+use Rattle.formula_book.specs.Children.{is_child}
+use Rattle.formula_rows.specs.Meanings.{row_meant}
 use Rattle.formula_book.proofs.fields.action_and_policy.Goals as goal
 
-pub returns-then-row-ne0 : goal.returns-then-row-ne0
-unfolding action_and_policy in_place row_meant sort_meant
-returns-then-row-ne0 c = rw (ne_eqb _ 0 c.if-row-ne0.true)
+pub returns-then-child_below-2 : goal.returns-then-child_below-2
+unfolding action_and_policy action_below policy_below is_child row_meant
+returns-then-child_below-2 c = search rules
 
-pub returns-then-not-action_below : goal.returns-then-not-action_below
-unfolding action_and_policy in_place row_meant sort_meant
-returns-then-not-action_below c = rw ((sym c.action_below.ensures ∙ c.if-not-action_below.true), and-false)
-
-pub returns-then-not-policy_below : goal.returns-then-not-policy_below
-unfolding action_and_policy in_place row_meant sort_meant
-returns-then-not-policy_below c = rw ((sym c.policy_below.ensures ∙ c.if-not-policy_below.true), and-false)
-
-pub returns : goal.returns
-unfolding action_and_policy in_place row_meant sort_meant
-returns c = rw (eq-eqb _ 0 c.if-row-ne0.false, (sym c.action_below.ensures ∙ c.if-not-action_below.false), (sym c.policy_below.ensures ∙ c.if-not-policy_below.false))
+pub returns-else-child_below-2 : goal.returns-else-child_below-2
+unfolding action_and_policy action_below policy_below is_child row_meant
+returns-else-child_below-2 c = search rules

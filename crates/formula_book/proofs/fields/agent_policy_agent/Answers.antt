@@ -1,23 +1,14 @@
--- `agent_policy_agent` meets its contract: the branches are its four tests, in order. Assumes nothing.
-use mathlib.Core.Path.{sym, ◌∙◌}
-use mathlib.Core.Bool.{and-false}
-use borrow.Author.Tests.{eq-eqb, ne_eqb}
-use Rattle.definition.specs.14-Book.{agent_policy_agent, in_place}
+-- `agent_policy_agent` meets its contract. Assumes nothing.
+use Rattle.std.proofs.Common.{rules}
+use Rattle.definition.specs.14-Book.{agent_policy_agent, policy_below, in_place}
+use Rattle.formula_book.specs.Children.{is_child}
 use Rattle.formula_rows.specs.Meanings.{row_meant, sort_meant}
 use Rattle.formula_book.proofs.fields.agent_policy_agent.Goals as goal
 
-pub returns-then-row-ne0 : goal.returns-then-row-ne0
-unfolding agent_policy_agent in_place row_meant sort_meant
-returns-then-row-ne0 c = rw (ne_eqb _ 0 c.if-row-ne0.true)
+pub returns-then-child_below : goal.returns-then-child_below
+unfolding agent_policy_agent policy_below in_place is_child row_meant sort_meant
+returns-then-child_below c = search rules
 
-pub returns-then-not-has_sort : goal.returns-then-not-has_sort
-unfolding agent_policy_agent in_place row_meant sort_meant
-returns-then-not-has_sort c = rw ((sym c.has_sort.ensures ∙ c.if-not-has_sort.true), and-false)
-
-pub returns-then-not-policy_below : goal.returns-then-not-policy_below
-unfolding agent_policy_agent in_place row_meant sort_meant
-returns-then-not-policy_below c = rw ((sym c.policy_below.ensures ∙ c.if-not-policy_below.true), and-false)
-
-pub returns : goal.returns
-unfolding agent_policy_agent in_place row_meant sort_meant
-returns c = rw (eq-eqb _ 0 c.if-row-ne0.false, (sym c.has_sort.ensures ∙ c.if-not-has_sort.false), (sym c.policy_below.ensures ∙ c.if-not-policy_below.false)) c.has_sort-2.ensures
+pub returns-else-child_below : goal.returns-else-child_below
+unfolding agent_policy_agent policy_below in_place is_child row_meant sort_meant
+returns-else-child_below c = search rules

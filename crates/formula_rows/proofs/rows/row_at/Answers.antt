@@ -1,4 +1,4 @@
--- `formula_book::rows::row_at` meets its contract: the row's eight bytes are in the book, and each field is read at its place.
+-- `row_at` meets its contract: the row's eight bytes are in the book, and each field is read at its place.
 -- Assumes nothing.
 use Rattle.definition.specs.14-Book.{row_at}
 use Rattle.formula_rows.specs.Meanings.{row_meant}

@@ -1,13 +1,12 @@
 -- `has_sort` meets its contract: an instance of the sort, or else a variable. Assumes nothing.
-use mathlib.Core.Path.{ap, ◌∙◌}
-use Rattle.definition.proofs.Tests.{either_first, either_second}
-use Rattle.definition.specs.12-Terms.{is_variable, has_sort}
+use borrow.Author.Rules.{rules}
+use Rattle.definition.specs.12-Terms.{has_sort}
 use Rattle.formula_rows.proofs.sought.has_sort.Goals as goal
 
 pub returns-then-is_instance : goal.returns-then-is_instance
 unfolding has_sort
-returns-then-is_instance c = either_first _ c.is_instance.ensures c.if-is_instance.true
+returns-then-is_instance c = search rules
 
-pub returns : goal.returns
+pub returns-else-is_instance : goal.returns-else-is_instance
 unfolding has_sort
-returns c = either_second c.is_instance.ensures c.if-is_instance.false (c.is_variable.ensures ∙ ap (is_variable _) c.of-term.ensures)
+returns-else-is_instance c = search rules

@@ -1,42 +1,44 @@
 -- The proof of the cycle of calls `action_has` and `policy_has`. Each one's measure is its row; a row's node tells where its tree goes on. The loop's invariant: what is found at the row it is at is what is found in the whole. Assumes nothing.
 use native.Mathlib.Omega.{arith}
 use Prim.Native.Nat.{ℕ}
-use mathlib.Core.Path.{◌≡◌}
-use Rattle.definition.specs.13-Formulas.{is_policy}
+use mathlib.Core.Path.{◌≡◌, ◌∙◌}
+use Rattle.definition.specs.13-Formulas.{is_policy, is_action}
 use Rattle.definition.specs.14-Book.{book_rows}
 use Rattle.formula_rows.specs.declared.nodes.Node.{Node}
 use Rattle.formula_rows.specs.Meanings.{sought_meant}
-use Rattle.formula_walks.proofs.WalkLaws.{leaf_read, said_read, known_node, said_parts, pair_parts, duty_parts, last_lower, body_lower, some_node}
+use Rattle.formula_walks.proofs.WalkLaws.{leaf_read, known_node, said_parts, pair_parts, duty_parts, last_lower, body_lower, some_node}
 use Rattle.formula_walks.proofs.OccursLaws.{ahead_all, Arm, own_arm, here, calls_first, calls_last, found_before, found_last, ahead_last, leaf_found, ahead_body}
 use Rattle.formula_walks.proofs.occurs.+action_has_policy_has.Goals as goal
-use Rattle.formula_walks.proofs.occurs.+action_has_policy_has.Goals.{policy_has-After-node_of}
+use Rattle.formula_walks.proofs.occurs.+action_has_policy_has.Goals.{action_has-After-from, policy_has-After-from}
 
 pub action_has-row_at-own-requires : goal.action_has-row_at-own-requires
 unfolding book_rows
 action_has-row_at-own-requires t c = let p = c.requires.walk_row.inside in omega arith
 
-pub action_has-returns-then-own-ne8 : goal.action_has-returns-then-own-ne8
-action_has-returns-then-own-ne8 t c = leaf_found (own_arm (c.decreases, (c.requires.walk_row, c.requires.present)) (leaf_read c.requires.walk_row c.row_at-own.result c.row_at-own.ensures c.requires.walk_row.kind c.if-own-ne8.true)) c.three_have.ensures
-
-pub action_has-returns-then-two_have : goal.action_has-returns-then-two_have
-action_has-returns-then-two_have t c = found_before (own_arm (c.decreases, (c.requires.walk_row, c.requires.present)) (said_read c.requires.walk_row c.row_at-own.result c.row_at-own.ensures c.if-own-ne8.false)) said_parts c.two_have.ensures c.if-two_have.true
-
-pub action_has-overflow_cast-own : goal.action_has-overflow_cast-own
-action_has-overflow_cast-own t c = omega arith
+-- the arm that the action is in, once its node is read
+action_arm : (t : ℕ) →
+    (k : action_has-After-from t) {m : Node} → k.from.result ≡ m →
+    Arm is_action (sought_meant k.args.w) k.args.book.now t k.args.row k.args.depth k.args.row k.args.depth m
+action_arm t k e = own_arm (k.decreases, (k.requires.walk_row, k.requires.present)) (known_node k.args.book.now k.args.row k.row_at-own.result k.row_at-own.ensures k.from.ensures e)
 
 pub action_has-policy_has-requires : goal.action_has-policy_has-requires
-action_has-policy_has-requires t c = calls_last (own_arm (c.decreases, (c.requires.walk_row, c.requires.present)) (said_read c.requires.walk_row c.row_at-own.result c.row_at-own.ensures c.if-own-ne8.false)) said_parts
+action_has-policy_has-requires t c = calls_last (action_arm t (goal.at.action_has-policy_has-requires t c).After-from c.in-Said.is) said_parts
 
-pub action_has-returns : goal.action_has-returns
-action_has-returns t c = found_last (own_arm (c.decreases, (c.requires.walk_row, c.requires.present)) (said_read c.requires.walk_row c.row_at-own.result c.row_at-own.ensures c.if-own-ne8.false)) said_parts c.two_have.ensures c.if-two_have.false c.policy_has.ensures
+pub action_has-returns-then-terms_have : goal.action_has-returns-then-terms_have
+action_has-returns-then-terms_have t c = c.if-terms_have.true ∙ found_before (action_arm t (goal.at.action_has-returns-then-terms_have t c).After-from c.in-Said.is) said_parts c.terms_have.ensures c.if-terms_have.true
+
+pub action_has-returns-else-terms_have : goal.action_has-returns-else-terms_have
+action_has-returns-else-terms_have t c = found_last (action_arm t (goal.at.action_has-returns-else-terms_have t c).After-from c.in-Said.is) said_parts c.terms_have.ensures c.if-terms_have.false c.policy_has.ensures
+
+pub action_has-returns-in_default : goal.action_has-returns-in_default
+action_has-returns-in_default t c = leaf_found (own_arm (c.decreases, (c.requires.walk_row, c.requires.present)) (leaf_read c.requires.walk_row c.row_at-own.result c.from.result c.row_at-own.ensures c.from.ensures c.requires.walk_row.kind c.in_default.not-Said)) c.terms_have-in_default.ensures
 
 -- the arm that the walk is in, once it has read the node
-
 policy_arm : (t : ℕ) →
-    (k : policy_has-After-node_of t) {m : Node} → k.node_of.result ≡ m →
+    (k : policy_has-After-from t) {m : Node} → k.from.result ≡ m →
     Arm is_policy (sought_meant k.args.w) k.args.book.now t k.args.row k.args.depth k.loop-x.at k.loop-x.under m
 policy_arm t k e =
-    record { start = k.decreases; ahead = k.loop-x.invariant; present = k.requires.present; node = known_node k.args.book.now k.loop-x.at k.row_at.result k.row_at.ensures k.node_of.ensures e }
+    record { start = k.decreases; ahead = k.loop-x.invariant; present = k.requires.present; node = known_node k.args.book.now k.loop-x.at k.row_at.result k.row_at.ensures k.from.ensures e }
 
 pub policy_has-loop-x-init : goal.policy_has-loop-x-init
 policy_has-loop-x-init t c = ahead_all c.requires.walk_row
@@ -46,67 +48,46 @@ unfolding book_rows
 policy_has-row_at-requires t c = let p = c.loop-x.invariant.may.inside in omega arith
 
 pub policy_has-returns-in-Leaf : goal.policy_has-returns-in-Leaf
-policy_has-returns-in-Leaf t c = leaf_found (policy_arm t (goal.at.policy_has-returns-in-Leaf t c).After-node_of c.in-Leaf.is) c.three_have.ensures
+policy_has-returns-in-Leaf t c = leaf_found (policy_arm t (goal.at.policy_has-returns-in-Leaf t c).After-from c.in-Leaf.is) c.terms_have.ensures
 
-pub policy_has-returns-then-two_have : goal.policy_has-returns-then-two_have
-policy_has-returns-then-two_have t c = found_before (policy_arm t (goal.at.policy_has-returns-then-two_have t c).After-node_of c.in-Said.is) said_parts c.two_have.ensures c.if-two_have.true
-
-pub policy_has-overflow_cast-at : goal.policy_has-overflow_cast-at
-policy_has-overflow_cast-at t c = omega arith
+pub policy_has-returns-then-terms_have : goal.policy_has-returns-then-terms_have
+policy_has-returns-then-terms_have t c = found_before (policy_arm t (goal.at.policy_has-returns-then-terms_have t c).After-from c.in-Said.is) said_parts c.terms_have-in-Said.ensures c.if-terms_have.true
 
 pub policy_has-loop-x-smaller-in-Said : goal.policy_has-loop-x-smaller-in-Said
-policy_has-loop-x-smaller-in-Said t c = last_lower (here (policy_arm t (goal.at.policy_has-loop-x-smaller-in-Said t c).After-node_of c.in-Said.is)) said_parts
+policy_has-loop-x-smaller-in-Said t c = last_lower (here (policy_arm t (goal.at.policy_has-loop-x-smaller-in-Said t c).After-from c.in-Said.is)) said_parts
 
 pub policy_has-loop-x-preserved-in-Said : goal.policy_has-loop-x-preserved-in-Said
-policy_has-loop-x-preserved-in-Said t c = ahead_last (policy_arm t (goal.at.policy_has-loop-x-preserved-in-Said t c).After-node_of c.in-Said.is) said_parts c.two_have.ensures c.if-two_have.false
-
-pub policy_has-overflow_cast-x : goal.policy_has-overflow_cast-x
-policy_has-overflow_cast-x t c = omega arith
+policy_has-loop-x-preserved-in-Said t c = ahead_last (policy_arm t (goal.at.policy_has-loop-x-preserved-in-Said t c).After-from c.in-Said.is) said_parts c.terms_have-in-Said.ensures c.if-terms_have.false
 
 pub policy_has-policy_has-requires : goal.policy_has-policy_has-requires
-policy_has-policy_has-requires t c = calls_first (policy_arm t (goal.at.policy_has-policy_has-requires t c).After-node_of c.in-Pair.is) pair_parts
+policy_has-policy_has-requires t c = calls_first (policy_arm t (goal.at.policy_has-policy_has-requires t c).After-from c.in-Pair.is) pair_parts
 
 pub policy_has-returns-then-policy_has : goal.policy_has-returns-then-policy_has
-policy_has-returns-then-policy_has t c = found_before (policy_arm t (goal.at.policy_has-returns-then-policy_has t c).After-node_of c.in-Pair.is) pair_parts c.policy_has.ensures c.if-policy_has.true
-
-pub policy_has-overflow_cast-at-in-Pair : goal.policy_has-overflow_cast-at-in-Pair
-policy_has-overflow_cast-at-in-Pair t c = omega arith
+policy_has-returns-then-policy_has t c = found_before (policy_arm t (goal.at.policy_has-returns-then-policy_has t c).After-from c.in-Pair.is) pair_parts c.policy_has.ensures c.if-policy_has.true
 
 pub policy_has-loop-x-smaller-in-Pair : goal.policy_has-loop-x-smaller-in-Pair
-policy_has-loop-x-smaller-in-Pair t c = last_lower (here (policy_arm t (goal.at.policy_has-loop-x-smaller-in-Pair t c).After-node_of c.in-Pair.is)) pair_parts
+policy_has-loop-x-smaller-in-Pair t c = last_lower (here (policy_arm t (goal.at.policy_has-loop-x-smaller-in-Pair t c).After-from c.in-Pair.is)) pair_parts
 
 pub policy_has-loop-x-preserved-in-Pair : goal.policy_has-loop-x-preserved-in-Pair
-policy_has-loop-x-preserved-in-Pair t c = ahead_last (policy_arm t (goal.at.policy_has-loop-x-preserved-in-Pair t c).After-node_of c.in-Pair.is) pair_parts c.policy_has.ensures c.if-policy_has.false
-
-pub policy_has-overflow_add-under : goal.policy_has-overflow_add-under
-policy_has-overflow_add-under t c = omega arith
-
-pub policy_has-overflow_cast-at-in-Body : goal.policy_has-overflow_cast-at-in-Body
-policy_has-overflow_cast-at-in-Body t c = omega arith
+policy_has-loop-x-preserved-in-Pair t c = ahead_last (policy_arm t (goal.at.policy_has-loop-x-preserved-in-Pair t c).After-from c.in-Pair.is) pair_parts c.policy_has.ensures c.if-policy_has.false
 
 pub policy_has-loop-x-smaller-in-Body : goal.policy_has-loop-x-smaller-in-Body
-policy_has-loop-x-smaller-in-Body t c = body_lower (here (policy_arm t (goal.at.policy_has-loop-x-smaller-in-Body t c).After-node_of c.in-Body.is))
+policy_has-loop-x-smaller-in-Body t c = body_lower (here (policy_arm t (goal.at.policy_has-loop-x-smaller-in-Body t c).After-from c.in-Body.is))
 
 pub policy_has-loop-x-preserved-in-Body : goal.policy_has-loop-x-preserved-in-Body
-policy_has-loop-x-preserved-in-Body t c = ahead_body (policy_arm t (goal.at.policy_has-loop-x-preserved-in-Body t c).After-node_of c.in-Body.is)
-
-pub policy_has-overflow_cast-x-in-Duty : goal.policy_has-overflow_cast-x-in-Duty
-policy_has-overflow_cast-x-in-Duty t c = omega arith
+policy_has-loop-x-preserved-in-Body t c = ahead_body (policy_arm t (goal.at.policy_has-loop-x-preserved-in-Body t c).After-from c.in-Body.is)
 
 pub policy_has-action_has-requires : goal.policy_has-action_has-requires
-policy_has-action_has-requires t c = calls_first (policy_arm t (goal.at.policy_has-action_has-requires t c).After-node_of c.in-Duty.is) duty_parts
+policy_has-action_has-requires t c = calls_first (policy_arm t (goal.at.policy_has-action_has-requires t c).After-from c.in-Duty.is) duty_parts
 
 pub policy_has-returns-then-action_has : goal.policy_has-returns-then-action_has
-policy_has-returns-then-action_has t c = found_before (policy_arm t (goal.at.policy_has-returns-then-action_has t c).After-node_of c.in-Duty.is) duty_parts c.action_has.ensures c.if-action_has.true
-
-pub policy_has-overflow_cast-at-in-Duty : goal.policy_has-overflow_cast-at-in-Duty
-policy_has-overflow_cast-at-in-Duty t c = omega arith
+policy_has-returns-then-action_has t c = found_before (policy_arm t (goal.at.policy_has-returns-then-action_has t c).After-from c.in-Duty.is) duty_parts c.action_has.ensures c.if-action_has.true
 
 pub policy_has-loop-x-smaller : goal.policy_has-loop-x-smaller
-policy_has-loop-x-smaller t c = last_lower (here (policy_arm t (goal.at.policy_has-loop-x-smaller t c).After-node_of c.in-Duty.is)) duty_parts
+policy_has-loop-x-smaller t c = last_lower (here (policy_arm t (goal.at.policy_has-loop-x-smaller t c).After-from c.in-Duty.is)) duty_parts
 
 pub policy_has-loop-x-preserved : goal.policy_has-loop-x-preserved
-policy_has-loop-x-preserved t c = ahead_last (policy_arm t (goal.at.policy_has-loop-x-preserved t c).After-node_of c.in-Duty.is) duty_parts c.action_has.ensures c.if-action_has.false
+policy_has-loop-x-preserved t c = ahead_last (policy_arm t (goal.at.policy_has-loop-x-preserved t c).After-from c.in-Duty.is) duty_parts c.action_has.ensures c.if-action_has.false
 
 pub policy_has-returns-in-None : goal.policy_has-returns-in-None
-policy_has-returns-in-None t c = absurd (some_node (here (policy_arm t (goal.at.policy_has-returns-in-None t c).After-node_of c.in-None.is)))
+policy_has-returns-in-None t c = absurd (some_node (here (policy_arm t (goal.at.policy_has-returns-in-None t c).After-from c.in-None.is)))

@@ -4,4 +4,4 @@ use Rattle.definition.specs.32-Numbers.{run_numbers}
 use Rattle.justification.proofs.exports.formula_book_admit.Goals as goal
 
 pub returns : goal.returns
-returns c = c.run_numbers.ensures ∙ ap run_numbers c.admit.ensures
+returns c = c.from.ensures ∙ ap run_numbers c.admit.ensures

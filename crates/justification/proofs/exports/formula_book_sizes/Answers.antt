@@ -5,4 +5,4 @@ use Rattle.justification.proofs.exports.formula_book_sizes.Goals as goal
 
 pub returns : goal.returns
 returns c = let column = c.admit_into.ensures in
-    (c.run_numbers.ensures ∙ ap run_numbers column.0, column.1)
+    (c.from.ensures ∙ ap run_numbers column.0, column.1)

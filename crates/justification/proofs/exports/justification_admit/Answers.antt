@@ -5,4 +5,4 @@ use Rattle.definition.proofs.PromiseLaws.{admission_answered}
 use Rattle.justification.proofs.exports.justification_admit.Goals as goal
 
 pub returns : goal.returns
-returns c = admission_answered run_numbers _ _ (c.run_numbers.ensures ∙ ap run_numbers c.admit.ensures)
+returns c = admission_answered run_numbers _ _ (c.from.ensures ∙ ap run_numbers c.admit.ensures)

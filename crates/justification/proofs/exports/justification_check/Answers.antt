@@ -4,4 +4,4 @@ use Rattle.definition.proofs.PromiseLaws.{answered_as}
 use Rattle.justification.proofs.exports.justification_check.Goals as goal
 
 pub returns : goal.returns
-returns c = answered_as verdict_numbers c.verdict_numbers.ensures c.check.ensures
+returns c = answered_as verdict_numbers c.from.ensures c.check.ensures

@@ -4,4 +4,4 @@ use Rattle.definition.proofs.IndexPromises.{answered_through_as}
 use Rattle.justification.proofs.exports.justification_check_indexed.Goals as goal
 
 pub returns : goal.returns
-returns c = answered_through_as verdict_numbers c.verdict_numbers.ensures c.check_through.ensures
+returns c = answered_through_as verdict_numbers c.from.ensures c.check_through.ensures

@@ -5,4 +5,4 @@ use Rattle.justification.proofs.exports.justification_index.Goals as goal
 
 pub returns : goal.returns
 returns c = let b = c.build.ensures in
-    (c.count_numbers.ensures ∙ ap count_numbers b.answer, b.room_is)
+    (c.from.ensures ∙ ap count_numbers b.answer, b.room_is)

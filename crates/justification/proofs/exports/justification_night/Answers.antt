@@ -4,4 +4,4 @@ use Rattle.definition.proofs.NightPromises.{night_answered_as}
 use Rattle.justification.proofs.exports.justification_night.Goals as goal
 
 pub returns : goal.returns
-returns c = night_answered_as count_numbers c.count_numbers.ensures c.check_night.ensures
+returns c = night_answered_as count_numbers c.from.ensures c.check_night.ensures

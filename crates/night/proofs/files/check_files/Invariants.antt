@@ -1,11 +1,7 @@
--- What the loop keeps, and its measure.
-use Prim.Native.Nat.{◌-◌}
+-- What the loop keeps.
 use Rattle.definition.specs.71-Nights.{lent_for}
 use Rattle.night.proofs.FileTurns.{Told}
 use Rattle.night.proofs.files.check_files.Given as goal
 
 abbrev pub invariant-loop-k : goal.invariant-loop-k
 invariant-loop-k l = Told (lent_for l.files l.list l.initial.verdicts l.initial.room) l.verdicts l.room l.d l.k
-
-abbrev pub decreases-loop-k : goal.decreases-loop-k
-decreases-loop-k l = l.n - l.k

@@ -7,4 +7,4 @@ use Rattle.night.proofs.files.entry_of.Goals as goal
 
 pub returns : goal.returns
 unfolding verdict_entry verdict_numbers_meant
-returns c = ap (λ (n : VerdictNumbers). n.kind ∷ n.first ∷ n.second ∷ []) c.verdict_numbers-numbers.ensures
+returns c = ap (λ (n : VerdictNumbers). n.kind ∷ n.first ∷ n.second ∷ []) c.from-numbers.ensures

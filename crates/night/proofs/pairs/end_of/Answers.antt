@@ -25,4 +25,4 @@ read_long-requires-2 c = omega arith
 
 pub returns : goal.returns
 unfolding pair_end pair_offset pair_length
-returns c = omega (arith, c.sum_of.ensures, c.read_long-2.ensures, c.read_long.ensures)
+returns c = omega (arith, c.read_long-2.ensures, c.read_long.ensures)

@@ -1,10 +1,8 @@
--- `is_row` meets its contract: a row that tells its formula. Assumes nothing.
+-- `is_row` meets its contract: equal rows are those of equal formulas. Assumes nothing.
 use mathlib.Core.Path.{◌∙◌}
-use Rattle.rules.proofs.ComparedRows.{readable, read_same}
+use Rattle.formula_rows.proofs.RowEquality.{rows_equal}
+use Rattle.rules.proofs.ComparedRows.{row_compared}
 use Rattle.rules.proofs.comparisons.is_row.Goals as goal
 
-pub row_at-own-requires : goal.row_at-own-requires
-row_at-own-requires c = readable c.requires.numbered
-
 pub returns : goal.returns
-returns c = c.same_row.ensures ∙ read_same c.row_at-own.result c.args.row c.requires.numbered c.requires.tells c.row_at-own.ensures
+returns c g stands = row_compared c.row_of.result c.args.row c.requires stands c.row_of.ensures (c.eq.ensures ∙ rows_equal _ _)

@@ -1,47 +1,40 @@
 -- `asked_first` meets its contract: the rules that ask something, and the others. Assumes nothing.
+use mathlib.Core.Logic.{inl, inr}
 use mathlib.Core.Path.{sym}
 use Rattle.definition.specs.21-Rules.{in_turn, of_every, rule, rules, rule_at}
 use Rattle.rules.specs.Misfits.{asked_meant}
+use Rattle.case_parts.specs.declared.named.Rule.TheVariants.{Say, Refine, Owner, AndLeft, AndRight, ImpliesElim, DutyByObligation, DutyByLabel, ForAllElim}
+use Rattle.rules.proofs.NamedNumbers.{one_rule, rule_few}
 use Rattle.rules.proofs.RuleNumbers.{nothing_first}
 use Rattle.rules.proofs.fit.asked_first.Goals as goal
 
-pub returns-in-3 : goal.returns-in-3
+pub returns-in-Say : goal.returns-in-Say
 unfolding asked_meant rule rules rule_at in_turn of_every
-returns-in-3 c = rw c.in-3.is
+returns-in-Say c = rw c.in-Say.is
 
-pub returns-in-4 : goal.returns-in-4
+pub returns-in-Refine : goal.returns-in-Refine
 unfolding asked_meant rule rules rule_at in_turn of_every
-returns-in-4 c = rw c.in-4.is
+returns-in-Refine c = elim c.in-Refine.is [ inl e ↦ rw e | inr e ↦ rw e ]
 
-pub returns-in-5 : goal.returns-in-5
+pub returns-in-Owner : goal.returns-in-Owner
 unfolding asked_meant rule rules rule_at in_turn of_every
-returns-in-5 c = rw c.in-5.is
+returns-in-Owner c = rw c.in-Owner.is
 
-pub returns-in-7 : goal.returns-in-7
+pub returns-in-AndLeft : goal.returns-in-AndLeft
 unfolding asked_meant rule rules rule_at in_turn of_every
-returns-in-7 c = rw c.in-7.is
+returns-in-AndLeft c = elim c.in-AndLeft.is [ inl e ↦ rw e | inr e ↦ rw e ]
 
-pub returns-in-8 : goal.returns-in-8
+pub returns-in-DutyByObligation : goal.returns-in-DutyByObligation
 unfolding asked_meant rule rules rule_at in_turn of_every
-returns-in-8 c = rw c.in-8.is
+returns-in-DutyByObligation c = elim c.in-DutyByObligation.is [ inl e ↦ rw e | inr e ↦ rw e ]
 
-pub returns-in-10 : goal.returns-in-10
+pub returns-in-ForAllElim : goal.returns-in-ForAllElim
 unfolding asked_meant rule rules rule_at in_turn of_every
-returns-in-10 c = rw c.in-10.is
-
-pub returns-in-12 : goal.returns-in-12
-unfolding asked_meant rule rules rule_at in_turn of_every
-returns-in-12 c = rw c.in-12.is
-
-pub returns-in-13 : goal.returns-in-13
-unfolding asked_meant rule rules rule_at in_turn of_every
-returns-in-13 c = rw c.in-13.is
-
-pub returns-in-15 : goal.returns-in-15
-unfolding asked_meant rule rules rule_at in_turn of_every
-returns-in-15 c = rw c.in-15.is
+returns-in-ForAllElim c = rw c.in-ForAllElim.is
 
 pub returns-in_default : goal.returns-in_default
 unfolding asked_meant
-returns-in_default c = let m = c.in_default.in_default-own.rest in
-    sym (nothing_first _ c.requires (m.0.0.0.0.0.0.0.0.1, (m.0.0.0.0.0.0.0.1, (m.0.0.0.0.0.0.1, (m.0.0.0.0.0.1, (m.0.0.0.0.1, (m.0.0.0.1, (m.0.0.1, (m.0.1, (m.1, tt))))))))))
+returns-in_default c =
+    let r = c.args.rule in
+    let not = c.in_default in
+    sym (nothing_first _ (rule_few r) ((λ e. not.not-Say (one_rule r Say e)), ((λ e. not.not-Refine (one_rule r Refine e)), ((λ e. not.not-Owner (one_rule r Owner e)), ((λ e. not.not-AndLeft (one_rule r AndLeft e)), ((λ e. not.not-AndRight (one_rule r AndRight e)), ((λ e. not.not-ImpliesElim (one_rule r ImpliesElim e)), ((λ e. not.not-DutyByObligation (one_rule r DutyByObligation e)), ((λ e. not.not-DutyByLabel (one_rule r DutyByLabel e)), ((λ e. not.not-ForAllElim (one_rule r ForAllElim e)), tt))))))))))

@@ -1,12 +1,8 @@
 -- `has_party` meets its contract: each arm is one clause of the definition. Assumes nothing.
 use Rattle.definition.specs.21-Rules.{has_kind, has_party}
 use Rattle.rules.specs.Misfits.{asked_meant}
-use Rattle.rules.proofs.PremiseFaults.{owner_is, source_is, target_is}
+use Rattle.rules.proofs.PremiseFaults.{owner_is, source_is, target_is, no_party}
 use Rattle.rules.proofs.fit.has_party.Goals as goal
-
-pub returns-in-Anything : goal.returns-in-Anything
-unfolding has_kind has_party asked_meant
-returns-in-Anything c f told kind = rw c.in-Anything.is
 
 pub returns-in-SaysToAgent : goal.returns-in-SaysToAgent
 unfolding has_kind has_party asked_meant
@@ -20,18 +16,5 @@ pub returns-in-AgentOwns : goal.returns-in-AgentOwns
 unfolding has_kind has_party asked_meant
 returns-in-AgentOwns c f told kind = rw c.in-AgentOwns.is (owner_is told _ (rw c.in-AgentOwns.is at kind))
 
-pub returns-in-And : goal.returns-in-And
-unfolding has_kind has_party asked_meant
-returns-in-And c f told kind = rw c.in-And.is
-
-pub returns-in-ForAll : goal.returns-in-ForAll
-unfolding has_kind has_party asked_meant
-returns-in-ForAll c f told kind = rw c.in-ForAll.is
-
-pub returns-in-Implies : goal.returns-in-Implies
-unfolding has_kind has_party asked_meant
-returns-in-Implies c f told kind = rw c.in-Implies.is
-
-pub returns-in-Duty : goal.returns-in-Duty
-unfolding has_kind has_party asked_meant
-returns-in-Duty c f told kind = rw c.in-Duty.is
+pub returns-in_default : goal.returns-in_default
+returns-in_default c f told kind = no_party _ f _ c.in_default.not-SaysToAgent c.in_default.not-AgentSays c.in_default.not-AgentOwns

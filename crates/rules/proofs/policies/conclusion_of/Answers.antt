@@ -1,20 +1,17 @@
 -- `conclusion_of` meets its contract: the kinds of rows one by one. Assumes nothing.
 use mathlib.Core.Path.{refl}
 use Rattle.definition.specs.21-Rules.{conclusion}
-use Rattle.rules.proofs.ComparedRows.{readable}
 use Rattle.rules.proofs.ActionPolicies.{communicated, created, concludes_nothing}
+use Rattle.rules.proofs.NamedNumbers.{named_so, named_other}
 use Rattle.rules.proofs.policies.conclusion_of.Goals as goal
 
-pub row_at-row-requires : goal.row_at-row-requires
-row_at-row-requires c = readable c.requires
-
-pub returns-then-row-eq8 : goal.returns-then-row-eq8
+pub returns-then-is : goal.returns-then-is
 unfolding conclusion
-returns-then-row-eq8 c = let row = c.row_at-row in
-    communicated _ _ c.requires row.ensures conclusion row.result.z _ (λ f. refl) c.if-row-eq8.true c.of_agent.ensures
+returns-then-is c = let row = c.row_of-row in
+    communicated _ _ c.requires row.ensures conclusion row.result.z _ (λ f. refl) (named_so c.is.ensures c.if-is.true) (λ m. c.of_agent.ensures _ _ (c.says.ensures _ m))
 
-pub returns-then-row-eq9 : goal.returns-then-row-eq9
-returns-then-row-eq9 c = created _ _ c.requires c.row_at-row.ensures _ c.if-row-eq9.true c.of_agent-then-row-eq9.ensures
+pub returns-then-is-2 : goal.returns-then-is-2
+returns-then-is-2 c = created _ _ c.requires c.row_of-row.ensures _ (named_so c.is-else-is.ensures c.if-is-2.true) (c.of_agent-then-is-2.ensures _ _ (c.owns.ensures _))
 
-pub returns : goal.returns
-returns c = concludes_nothing _ _ c.requires c.row_at-row.ensures c.if-row-eq8.false c.if-row-eq9.false
+pub returns-else-is-2 : goal.returns-else-is-2
+returns-else-is-2 c = concludes_nothing _ _ c.requires c.row_of-row.ensures (named_other c.is.ensures c.if-is.false) (named_other c.is-else-is.ensures c.if-is-2.false)

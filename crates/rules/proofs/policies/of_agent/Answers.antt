@@ -1,13 +1,7 @@
 -- `of_agent` meets its contract. Assumes nothing.
-use mathlib.Core.Path.{refl}
-use borrow.Author.Tests.{eq-eqb, ne_eqb}
-use Rattle.rules.specs.Policies.{policy_meant}
+use lib.Dec.{eqb}
+use Rattle.rules.proofs.ActionPolicies.{given_if}
 use Rattle.rules.proofs.policies.of_agent.Goals as goal
 
-pub returns-then-who-agent : goal.returns-then-who-agent
-unfolding policy_meant
-returns-then-who-agent c b t = rw (eq-eqb _ _ c.if-who-agent.true) (record { is = refl; told = t })
-
 pub returns : goal.returns
-unfolding policy_meant
-returns c b t = rw (ne_eqb _ _ c.if-who-agent.false) (record { is = refl; told = tt })
+returns c b f stands = rw c.then_some.ensures (given_if (eqb c.args.who c.args.agent) stands)

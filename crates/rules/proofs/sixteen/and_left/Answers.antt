@@ -1,19 +1,14 @@
 -- `and_left` meets its contract: by the kind of the premise. Assumes nothing.
-use Rattle.rules.proofs.ComparedRows.{readable}
+use mathlib.Core.Path.{◌∙◌}
 use Rattle.rules.proofs.FormulaParts.{and_parts, not_left, left}
+use Rattle.rules.proofs.NamedNumbers.{named_so, named_other}
 use Rattle.rules.proofs.sixteen.and_left.Goals as goal
 
-pub row_at-premise-requires : goal.row_at-premise-requires
-row_at-premise-requires c = readable c.requires.1
+pub returns-then-is : goal.returns-then-is
+returns-then-is c = let row = c.row_of-premise in
+    left row.result c.requires.1 row.ensures _ (named_so c.is.ensures c.if-is.true)
+    (c.is_row.ensures _ (c.and.ensures _ c.requires.0 (and_parts row.result c.requires.1 row.ensures (named_so c.is.ensures c.if-is.true)).second))
 
-pub returns-then-premise-ne3 : goal.returns-then-premise-ne3
-returns-then-premise-ne3 c = let row = c.row_at-premise in
-    not_left row.result c.requires.1 row.ensures _ c.if-premise-ne3.true
-
-pub is_and-requires : goal.is_and-requires
-is_and-requires c = let row = c.row_at-premise in
-    (c.requires.1, c.requires.0, (and_parts row.result c.requires.1 row.ensures c.if-premise-ne3.false).second)
-
-pub returns : goal.returns
-returns c = let row = c.row_at-premise in
-    left row.result c.requires.1 row.ensures _ c.if-premise-ne3.false c.is_and.ensures
+pub returns-else-is : goal.returns-else-is
+returns-else-is c d a = let row = c.row_of-premise in
+    c.if-is.false ∙ not_left row.result c.requires.1 row.ensures _ (named_other c.is.ensures c.if-is.false) d a

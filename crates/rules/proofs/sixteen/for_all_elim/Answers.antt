@@ -5,13 +5,13 @@ use Rattle.definition.specs.21-Rules.{first, for_all_elim}
 use Rattle.rules.proofs.FormulaParts.{term_kind}
 use Rattle.rules.proofs.sixteen.for_all_elim.Goals as goal
 
-pub is_body-requires : goal.is_body-requires
-is_body-requires c = record { numbered = (c.requires.1, c.requires.0); g_value = term_kind _ _ (sym c.admits_term.ensures ∙ c.if-admits_term.true) }
+pub is_body-requires-clause-g_value : goal.is_body-requires-clause-g_value
+is_body-requires-clause-g_value c = term_kind _ _ (sym c.admits_term.ensures ∙ c.if-admits_term.true)
 
 pub returns-then-admits_term : goal.returns-then-admits_term
 unfolding for_all_elim first
 returns-then-admits_term c d = both_second c.admits_term.ensures c.if-admits_term.true c.is_body.ensures
 
-pub returns : goal.returns
+pub returns-else-admits_term : goal.returns-else-admits_term
 unfolding for_all_elim first
-returns c d = both_first _ c.admits_term.ensures c.if-admits_term.false
+returns-else-admits_term c d = c.if-admits_term.false ∙ both_first _ c.admits_term.ensures c.if-admits_term.false

@@ -1,34 +1,25 @@
 -- `owner` meets its contract: the answer about the data tells a row, or the table holds them. Assumes nothing.
-use mathlib.Core.Path.{◌≡◌, refl, sym, ap, ◌∙◌}
-use lib.ListN.{length}
-use Rattle.definition.specs.13-Formulas.{data_of}
-use Rattle.definition.specs.14-Book.{tree_in, book}
-use Rattle.formula_book.specs.DataAnswers.{stray_or, data_meant}
-use Rattle.formula_book.specs.declared.answers.Data.{Data}
-use Rattle.formula_book.proofs.Laws.{is_stray, is_clear, stray_is, clear_is}
-use Rattle.rules.specs.Misfits.{owner_meant}
+use Rattle.std.proofs.Common.{rules, Err}
+use mathlib.Core.Path.{◌≡◌}
 use Rattle.rules.proofs.ComparedRows.{good_row}
+use Rattle.rules.proofs.StrayRuns.{stray_told, clear_told, clear_run}
 use Rattle.rules.proofs.sixteen.owner.Goals as goal
-use Rattle.rules.proofs.sixteen.owner.Goals.{After-data_of-told}
 
--- The answer about the data, where it is known.
-said : (d : After-data_of-told) {x : Data} → d.data_of-told.result ≡ x → data_meant x ≡ stray_or d.args.book.now d.args.f (length (data_of (tree_in (book d.args.book.now) d.args.f)))
-said d e = sym (ap data_meant e) ∙ d.data_of-told.ensures.0
+pub data_of-requires-clause-good_row : goal.data_of-requires-clause-good_row
+data_of-requires-clause-good_row c = (good_row c.requires.numbered.0, c.requires.numbered.1)
 
-pub data_of-told-requires : goal.data_of-told-requires
-data_of-told-requires c = record { good_row = (good_row c.requires.numbered.0, c.requires.numbered.1); set_len = refl }
+pub returns-in_err-many : goal.returns-in_err-many
+returns-in_err-many c a =
+    let e : c.from_residual.result ≡ Err c.in_err-many.field-0.0 = search rules in
+    rw e (stray_told _ _ _ _ _ c.in_err-many.ensures.0)
 
-pub owned-fits-requires : goal.owned-fits-requires
-unfolding data_meant
-owned-fits-requires c = let l = c.data_of-told.ensures.1 in
-    let w = clear_is _ _ _ (said (goal.at.owned-fits-requires c).After-data_of-told c.in-Listed.is) in
-    record { lent = (c.requires.lent.0, c.requires.lent.1, c.requires.numbered.0); set_len = (l.long, rw w.1 l.few, rw w.1 l.is); f_value = w.0 }
+pub owned-requires-clause-set_len : goal.owned-requires-clause-set_len
+owned-requires-clause-set_len c = let l = c.in_ok-many.ensures.1 in
+    let many = (clear_told _ _ _ _ c.in_ok-many.ensures.0).1 in
+    (l.long, rw many l.few, rw many l.is)
 
-pub returns-in-Stray : goal.returns-in-Stray
-unfolding owner_meant data_meant
-returns-in-Stray c a = let w = stray_is _ _ _ (said (goal.at.returns-in-Stray c).After-data_of-told c.in-Stray.is) in
-    is_stray _ _ _ w.0 w.1
+pub owned-requires-clause-f_value : goal.owned-requires-clause-f_value
+owned-requires-clause-f_value c = (clear_told _ _ _ _ c.in_ok-many.ensures.0).0
 
-pub returns-in-Listed : goal.returns-in-Listed
-unfolding owner_meant data_meant
-returns-in-Listed c a = is_clear _ _ _ (clear_is _ _ _ (said (goal.at.returns-in-Listed c).After-data_of-told c.in-Listed.is)).0 (c.owned-fits.ensures a)
+pub returns : goal.returns
+returns c a = clear_run _ _ (clear_told _ _ _ _ c.in_ok-many.ensures.0).0 (c.owned.ensures a)

@@ -1,19 +1,13 @@
 -- `say` meets its contract: by the kind of the premise. Assumes nothing.
-use Rattle.rules.proofs.ComparedRows.{readable}
-use Rattle.case_file.proofs.LentCaseLaws.{parted}
+use mathlib.Core.Path.{◌∙◌}
 use Rattle.rules.proofs.FormulaParts.{not_said, said}
+use Rattle.rules.proofs.NamedNumbers.{named_so, named_other}
 use Rattle.rules.proofs.sixteen.say.Goals as goal
 
-pub row_at-premise-requires : goal.row_at-premise-requires
-row_at-premise-requires c = readable c.requires.2
+pub returns-then-is : goal.returns-then-is
+returns-then-is c = let row = c.row_of-premise in
+    said row.result c.requires.1 row.ensures _ c.args.case.now.file.now (named_so c.is.ensures c.if-is.true) c.agent_of-agent.ensures (c.is_row.ensures _ (c.says.ensures _ c.requires.0))
 
-pub returns-then-premise-ne2 : goal.returns-then-premise-ne2
-returns-then-premise-ne2 c = let row = c.row_at-premise in
-    not_said row.result c.requires.2 row.ensures _ c.if-premise-ne2.true _
-
-pub agent_of-requires : goal.agent_of-requires
-agent_of-requires c = parted c.requires.0
-
-pub returns : goal.returns
-returns c = let row = c.row_at-premise in
-    said row.result c.requires.2 row.ensures _ c.args.file.now c.if-premise-ne2.false c.agent_of.ensures c.is_says.ensures
+pub returns-else-is : goal.returns-else-is
+returns-else-is c a = let row = c.row_of-premise in
+    c.if-is.false ∙ not_said row.result c.requires.1 row.ensures _ (named_other c.is.ensures c.if-is.false) _ a

@@ -8,6 +8,6 @@ pub returns-then-code-eq0 : goal.returns-then-code-eq0
 unfolding sort_of_code sort_meant
 returns-then-code-eq0 c = rw (eq-eqb _ 0 c.if-code-eq0.true)
 
-pub returns : goal.returns
+pub returns-else-code-eq0 : goal.returns-else-code-eq0
 unfolding sort_of_code sort_meant
-returns c = rw (ne_eqb _ 0 c.if-code-eq0.false)
+returns-else-code-eq0 c = rw (ne_eqb _ 0 c.if-code-eq0.false)

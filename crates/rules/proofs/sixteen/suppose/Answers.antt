@@ -1,14 +1,12 @@
 -- `suppose` meets its contract: by the label's mark, and its formula's number. Assumes nothing.
-use Rattle.case_file.proofs.LentCaseLaws.{parted}
+use mathlib.Core.Path.{◌∙◌}
 use Rattle.rules.proofs.CitedFormulas.{supposed, not_supposed}
+use Rattle.rules.proofs.NamedNumbers.{named_so, named_other}
 use Rattle.rules.proofs.sixteen.suppose.Goals as goal
 
-pub label_at-entry-requires : goal.label_at-entry-requires
-label_at-entry-requires c = (parted c.requires.lent.0, c.requires.label_bound)
+pub returns-then-is : goal.returns-then-is
+returns-then-is c = let is = c.label_at-entry.ensures in
+    supposed c.args.case.now.lent.lent c.requires.label_bound is.mark is.formula c.requires.numbered (named_so c.is.ensures c.if-is.true)
 
-pub returns-then-entry-ne0 : goal.returns-then-entry-ne0
-returns-then-entry-ne0 c = not_supposed c.requires.lent.0 c.args.label c.label_at-entry.ensures.mark c.if-entry-ne0.true _
-
-pub returns : goal.returns
-returns c = let is = c.label_at-entry.ensures in
-    supposed c.requires.lent.0 c.requires.label_bound is.mark is.formula c.requires.lent.1 c.if-entry-ne0.false
+pub returns-else-is : goal.returns-else-is
+returns-else-is c = c.if-is.false ∙ not_supposed c.args.case.now.lent.lent c.args.label c.label_at-entry.ensures.mark (named_other c.is.ensures c.if-is.false) _

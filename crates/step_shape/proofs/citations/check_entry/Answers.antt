@@ -1,20 +1,17 @@
--- `check_entry` meets its contract: the branches are checks 14 and 15, in order. Assumes nothing.
-use mathlib.Core.Path.{refl, sym, ◌∙◌}
-use borrow.Author.Tests.{eq-eqb, ne_eqb, lt-ltb, le-ltb}
-use Rattle.definition.proofs.CheckLaws.{goes_on, stops, hold_all}
-use Rattle.definition.specs.01-Words.{absent}
-use Rattle.words.specs.Meanings.{failure_meant}
+-- `check_entry` meets its contract: checks 14 and 15, in order. Assumes nothing.
+use Rattle.std.proofs.Common.{rules, Err}
+use mathlib.Core.Path.{◌≡◌, ap, ◌∙◌}
+use Rattle.definition.specs.04-Checks.{try, single}
+use Rattle.words.proofs.CheckRuns.{checks_stop, checks_go_on, last_check}
 use Rattle.step_shape.specs.EntryChecks.{entry_checks}
 use Rattle.step_shape.proofs.citations.check_entry.Goals as goal
 
-pub returns-then-argument-eq-ABSENT : goal.returns-then-argument-eq-ABSENT
-unfolding failure_meant entry_checks
-returns-then-argument-eq-ABSENT c = sym (stops _ _ 14 _ (refl, refl, eq-eqb _ absent c.if-argument-eq-ABSENT.true))
-
-pub returns-then-entries-argument : goal.returns-then-entries-argument
-unfolding failure_meant entry_checks
-returns-then-entries-argument c = sym (goes_on _ _ (ne_eqb _ absent c.if-argument-eq-ABSENT.false) ∙ stops _ _ 15 _ (refl, refl, rw (le-ltb _ _ c.if-entries-argument.true)))
+pub returns-in_err-single : goal.returns-in_err-single
+unfolding entry_checks
+returns-in_err-single c =
+    let e : c.from_residual.result ≡ Err c.in_err-single.field-0.0 = search rules in
+    rw e (checks_stop _ _ _ c.in_err-single.ensures)
 
 pub returns : goal.returns
-unfolding failure_meant entry_checks
-returns c = sym (hold_all _ (ne_eqb _ absent c.if-argument-eq-ABSENT.false, (rw (lt-ltb _ _ c.if-entries-argument.false), tt)))
+unfolding entry_checks
+returns c = c.single-2.ensures ∙ ap (λ b. try (single 15 c.args.place b)) (search rules) ∙ last_check _ ∙ checks_go_on _ _ _ c.in_ok-single.ensures

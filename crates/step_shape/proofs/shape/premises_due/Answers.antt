@@ -7,7 +7,7 @@ pub returns-then-k-eq0 : goal.returns-then-k-eq0
 unfolding span_due
 returns-then-k-eq0 c = rw (eq-eqb _ 0 c.if-k-eq0.true)
 
-pub returns : goal.returns
+pub returns-else-k-eq0 : goal.returns-else-k-eq0
 unfolding span_due
-returns c = let is = c.step_at-before.ensures in
+returns-else-k-eq0 c = let is = c.step_at-before.ensures in
     rw (ne_eqb _ 0 c.if-k-eq0.false, ← is.from, ← is.len)

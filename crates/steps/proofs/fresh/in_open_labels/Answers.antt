@@ -1,31 +1,18 @@
--- `in_open_labels` meets its contract. The loop's invariant: the term stands in no open label before `l`. Assumes nothing.
-use mathlib.Core.Path.{sym, ◌∙◌}
+-- `in_open_labels` meets its contract: the numbers of the labels, one after the other. Assumes nothing.
+use Rattle.std.proofs.Common.{rules, tests}
+use Rattle.std.proofs.lemmas.Iterator.{YieldsList-from_range}
+use Rattle.std.proofs.lemmas.Iterator.Search.{any_from_yields_List}
+use mathlib.Core.Path.{refl, ◌∙◌}
 use native.Mathlib.Omega.{arith}
-use Rattle.case_file.proofs.LentCaseLaws.{parted}
-use Rattle.steps.proofs.FreshTerms.{missing_more, label_found, none_found}
+use Rattle.definition.specs.17-Case.{case_of}
+use Rattle.steps.specs.OpenLabels.{in_open_labels}
+use Rattle.steps.proofs.FreshTerms.{in_label, any_in_range}
 use Rattle.steps.proofs.fresh.in_open_labels.Goals as goal
 
-pub count_of-n-requires : goal.count_of-n-requires
-count_of-n-requires c = (parted c.requires.0, omega arith)
-
-pub loop-l-init : goal.loop-l-init
-loop-l-init c = λ j lt. absurd (omega arith)
-
-pub in_open_label-requires : goal.in_open_label-requires
-in_open_label-requires c = record { lent = c.requires; l_bound = omega (arith, c.count_of-n.ensures.0, c.loop-l-test.true) }
-
-pub returns-then-in_open_label : goal.returns-then-in_open_label
-returns-then-in_open_label c = label_found c.args.file.now c.args.term c.args.above.bits c.loop-l.l
-    (omega (arith, c.count_of-n.ensures.0, c.loop-l-test.true)) (sym c.in_open_label.ensures ∙ c.if-in_open_label.true)
-
-pub overflow_add-l : goal.overflow_add-l
-overflow_add-l c = omega (arith, c.count_of-n.ensures.1, c.loop-l-test.true)
-
-pub loop-l-smaller : goal.loop-l-smaller
-loop-l-smaller c = omega (arith, c.loop-l-test.true)
-
-pub loop-l-preserved : goal.loop-l-preserved
-loop-l-preserved c = missing_more c.args.file.now c.args.term c.args.above.bits c.loop-l.invariant (sym c.in_open_label.ensures ∙ c.if-in_open_label.false)
-
 pub returns : goal.returns
-returns c = none_found c.args.file.now c.args.term c.args.above.bits (omega (arith, c.count_of-n.ensures.0, c.loop-l-test.false)) c.loop-l.invariant
+unfolding in_open_labels case_of
+returns c =
+    let s = c.args.case.now.file.now in
+    let test = in_label s c.args.term c.args.above.bits in
+    any_from_yields_List test _ _ _ c.any.ensures.ran (YieldsList-from_range 0 c.count_of.result c.count_of.result refl (omega arith)) (λ x b q k. search (rules, tests))
+    ∙ any_in_range test c.count_of.result 0 ∙ rw c.count_of.ensures.0

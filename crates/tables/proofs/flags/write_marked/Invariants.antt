@@ -1,5 +1,4 @@
--- What the loop keeps, and its measure.
-use Prim.Native.Nat.{◌-◌, ◌≤◌}
+-- What the loop keeps: the numbers of the first `k` stand in the room, and the rest is as it was.
 use mathlib.Core.Path.{◌≡◌}
 use mathlib.Core.List.{◌++◌}
 use lib.ListN.{length, drop}
@@ -9,7 +8,4 @@ use Rattle.tables.proofs.flags.write_marked.Given as goal
 
 abbrev pub invariant-loop-k : goal.invariant-loop-k
 invariant-loop-k l = let done = members (marks l.flags) l.k 0 in
-    (l.k ≤ l.n) × (l.at ≡ length done) × (l.room ≡ done ++ drop (length done) l.initial.room)
-
-abbrev pub decreases-loop-k : goal.decreases-loop-k
-decreases-loop-k l = l.n - l.k
+    (l.at ≡ length done) × (l.room ≡ done ++ drop (length done) l.initial.room)

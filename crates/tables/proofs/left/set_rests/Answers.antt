@@ -1,9 +1,11 @@
 -- `set_rests` meets its contract: the digits below 32 are those of the labels, digit 33 is that of the citing, and digit 32 stays. Assumes nothing.
 use Prim.Native.Nat.{ℕ, ◌+◌, ◌*◌, ◌/◌, ◌%◌, ◌<◌}
 use mathlib.Core.List.{List}
-use mathlib.Core.Path.{◌≡◌, refl, sym, ap, ◌∙◌}
+use mathlib.Core.Path.{◌≡◌, refl, ap, ◌∙◌}
 use native.Mathlib.Omega.{arith}
 use lib.Dec.{eqb}
+use mir.Val.{bool_byte}
+use mathlib.Core.Bool.{Bool, true, false}
 use lib.ListN.{length, get_or, set, length-set}
 use Rattle.definition.specs.02-Ranges.{update}
 use Rattle.definition.specs.22-Steps.{Rests, with_rests}
@@ -35,10 +37,16 @@ module _ (t : List ℕ) (k l above used cites : ℕ) (is : above ≡ used + 2 * 
       let high : n / 8589934592 % 2 ≡ cites = odd (n / 8589934592) cites 0 (top n used cites l whole small bits) flag in
       (length-set t k n ∙ long, rests_set t k n (rw long lt) ((λ i. record { opens = labels_of (low i); cites = eqb (high i) 1 }) ∙ e) (ap (λ x. eqb x 1) (mid ∙ same)))
 
-pub returns-then-rests : goal.returns-then-rests
-returns-then-rests c = let a = c.args in
-    entered a.left.now a.k a.rests.opens.bits _ _ 1 refl c.requires.1 c.requires.0 (omega arith) refl (omega arith) (λ i. record { opens = labels_of a.rests.opens.bits; cites = sym c.if-rests.true i })
+digit_small : (b : Bool) → bool_byte b < 2
+digit_small true = omega arith
+digit_small false = omega arith
+
+digit_told : (b : Bool) → eqb (bool_byte b) 1 ≡ b
+digit_told true = refl
+digit_told false = refl
 
 pub returns : goal.returns
 returns c = let a = c.args in
-    entered a.left.now a.k a.rests.opens.bits _ _ 0 (omega arith) c.requires.1 c.requires.0 (omega arith) refl (omega arith) (λ i. record { opens = labels_of a.rests.opens.bits; cites = sym c.if-rests.false i })
+    let bits : a.rests.opens.bits < 4294967296 = omega arith in
+    rw (c.from.ensures, c.from-cites.ensures)
+    (entered a.left.now a.k a.rests.opens.bits _ _ (bool_byte a.rests.cites) refl c.requires.1 c.requires.0 bits refl (digit_small a.rests.cites) (λ i. record { opens = labels_of a.rests.opens.bits; cites = digit_told a.rests.cites i }))

@@ -1,29 +1,17 @@
--- `Term::is_bound` meets its contract: each arm is one clause of the definition. Assumes nothing.
+-- `Term::is_bound` meets its contract: one arm is a clause of the definition, and the other what is left. Assumes nothing.
 use mathlib.Core.Path.{sym, ◌∙◌}
 use Rattle.definition.specs.12-Terms.{is_bound}
 use Rattle.formula_rows.specs.Meanings.{term_meant}
+use Rattle.formula_rows.proofs.TermCases.{sorts_equal, none_bound}
 use Rattle.formula_rows.proofs.terms.Term.is_bound.Goals as goal
 
-pub returns-then-same : goal.returns-then-same
+pub returns-then-eq : goal.returns-then-eq
 unfolding is_bound term_meant
-returns-then-same c = rw (c.in-Variable.is, sym c.same.ensures ∙ c.if-same.true)
+returns-then-eq c = rw (c.in-Variable.is, sym (c.eq.ensures ∙ sorts_equal _ _) ∙ c.if-eq.true)
 
-pub returns-in-Object : goal.returns-in-Object
+pub returns-else-eq : goal.returns-else-eq
 unfolding is_bound term_meant
-returns-in-Object c = rw c.in-Object.is
+returns-else-eq c = rw (c.in-Variable.is, sym (c.eq.ensures ∙ sorts_equal _ _) ∙ c.if-eq.false) c.if-eq.false
 
-pub returns-in-Parameter : goal.returns-in-Parameter
-unfolding is_bound term_meant
-returns-in-Parameter c = rw c.in-Parameter.is
-
-pub returns-else-same : goal.returns-else-same
-unfolding is_bound term_meant
-returns-else-same c = rw (c.in-Variable.is, sym c.same.ensures ∙ c.if-same.false)
-
-pub returns-in-Absent : goal.returns-in-Absent
-unfolding is_bound term_meant
-returns-in-Absent c = rw c.in-Absent.is
-
-pub returns-in-Other : goal.returns-in-Other
-unfolding is_bound term_meant
-returns-in-Other c = rw c.in-Other.is
+pub returns-in_default : goal.returns-in_default
+returns-in_default c = none_bound _ _ _ c.in_default.not-Variable

@@ -1,0 +1,14 @@
+-- The loop ends at the lowest fault, or has passed all places: as the definition's check does. Assumes nothing.
+use Rattle.std.proofs.Common.{arith, true, false}
+use mathlib.Core.Path.{refl, sym}
+use Rattle.definition.proofs.CheckLaws.{try_fails, try_holds}
+use Rattle.words.specs.Meanings.{run_meant}
+use Rattle.words.proofs.runs.each.Goals as goal
+
+pub returns-then-fault : goal.returns-then-fault
+unfolding run_meant
+returns-then-fault g c = λ f agrees. sym (try_fails _ _ _ (refl, (c.loop-k-test.true, sym (agrees _ true c.loop-k-test.true c.if-fault.ensures), λ j below. sym (agrees j false (omega arith) (c.loop-k.invariant j below)))))
+
+pub returns : goal.returns
+unfolding run_meant
+returns g c = λ f agrees. sym (try_holds _ (λ k below. sym (agrees k false below (c.loop-k.invariant k (omega arith)))))
