@@ -21,8 +21,9 @@ fn done_by(case: &Case, row: u16, action: u16) -> bool
 {
     row != Term::ABSENT
         && match view_at(case.views, row as usize) {
+            View::Hidden => false,
+            View::Struck => false,
             View::Shows(shown) => shown == action,
-            _ => false,
         }
 }
 
