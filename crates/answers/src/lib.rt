@@ -3,7 +3,8 @@
 
 ghost use Rattle.std.specs.Prelude.{◌≡◌};
 ghost use Rattle.definition.specs.32-Numbers.{verdict_numbers, run_numbers, count_numbers};
-ghost use Rattle.words.specs.Meanings.{check_number, run_meant};
+ghost use Rattle.words.specs.Meanings.{run_meant};
+ghost use Rattle.definition.specs.04-Checks.{refuses};
 ghost use Rattle.definition.specs.31-Outcome.{refused};
 ghost use Rattle.checker.specs.Meanings.{verdict_meant};
 ghost use Rattle.answers.specs.Meanings.{verdict_numbers_meant, run_numbers_meant};
@@ -29,14 +30,21 @@ pub struct RunNumbers {
 }
 
 // A refusal, of a verdict or of a count: kind 2, with the number of its check and its place.
-fn refused(refusal: Refusal) -> VerdictNumbers
-    ensures { verdict_numbers_meant result ≡ verdict_numbers (refused (check_number refusal.check) refusal.place) }
+pub fn refused(number: u16, place: u16) -> VerdictNumbers
+    ensures { (verdict_numbers_meant result ≡ verdict_numbers (refused number place)) × (verdict_numbers_meant result ≡ count_numbers (refuses number place)) }
 {
     VerdictNumbers {
         kind: 2,
-        first: refusal.check.number(),
-        second: refusal.place,
+        first: number,
+        second: place,
     }
+}
+
+// A run of checks of which one fails: its number and its place.
+pub fn failed(number: u16, place: u16) -> RunNumbers
+    ensures { run_numbers_meant result ≡ run_numbers (refuses number place) }
+{
+    RunNumbers { number, place }
 }
 
 impl From<Result<Verdict, Refusal>> for VerdictNumbers {
@@ -54,7 +62,7 @@ impl From<Result<Verdict, Refusal>> for VerdictNumbers {
                 first: 0,
                 second: 0,
             },
-            Err(refusal) => refused(refusal),
+            Err(refusal) => refused(refusal.check.number(), refusal.place),
         }
     }
 }
@@ -70,7 +78,7 @@ impl From<Result<u16, Refusal>> for VerdictNumbers {
                 first: count,
                 second: 0,
             },
-            Err(refusal) => refused(refusal),
+            Err(refusal) => refused(refusal.check.number(), refusal.place),
         }
     }
 }
@@ -84,10 +92,7 @@ impl From<Result<(), Refusal>> for RunNumbers {
                 number: 0,
                 place: 0,
             },
-            Err(refusal) => RunNumbers {
-                number: refusal.check.number(),
-                place: refusal.place,
-            },
+            Err(refusal) => failed(refusal.check.number(), refusal.place),
         }
     }
 }

@@ -38,7 +38,10 @@ fn look(observers: &[u8], agent: u16, from: usize, len: usize) -> Option<bool>
         if (entry as usize) < least || !Term::from(entry).is_object(Sort::Agents) {
             return None;
         }
-        seen = seen || entry == agent;
+        // An `if`: by `seen || ..` a log of many observers takes half as long again.
+        if entry == agent {
+            seen = true;
+        }
         least = entry as usize + 1;
     }
     Some(seen)

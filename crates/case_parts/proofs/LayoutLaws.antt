@@ -1,13 +1,15 @@
--- The layout as the code reads it: the bytes of a part that is in its place, and of its records. Assumes nothing.
+-- The layout as the code reads it: what check 2 asks of the observers' part, the bytes of a part that is in its place, and of its records. Assumes nothing.
 use Prim.Native.Nat.{ℕ, zero, suc, ◌+◌, ◌*◌, ◌-◌, ◌/◌, ◌≤◌, ◌<◌}
-use mathlib.Core.Path.{◌≡◌, refl}
+use mathlib.Core.Path.{◌≡◌, refl, sym}
+use mathlib.Core.Bool.{false, or-false as or_none}
 use mathlib.Core.List.{List}
 use native.Mathlib.Nat.{mul-le-mul_left, mul-div-le, mul-suc}
 use native.Mathlib.Omega.{arith}
 use lib.ListN.{length, take, drop}
+use borrow.Author.Tests.{eq-eqb, ne_eqb}
 use Rattle.definition.proofs.PartLaws.{part_few}
 use Rattle.definition.proofs.Windows.{window_word, window_length}
-use Rattle.definition.specs.11-Layout.{record_bytes, most_records, offset, size, count, part, records_in, field_in}
+use Rattle.definition.specs.11-Layout.{record_bytes, most_records, offset, size, count, part, records_in, field_in, orphans, is_misplaced, faulty_part}
 use Rattle.definition.specs.18-Admission.{Parted}
 use Rattle.case_parts.specs.Records.{Recorded}
 
@@ -60,6 +62,12 @@ unfolding part
 part_is s p o n e f =
     let long : o + n - o ≡ n = omega arith in
     rw (← e, ← f, long)
+
+-- What check 2 asks of the observers' part, where it is in its place.
+module _ (s : List ℕ) (p : ℕ) (e : is_misplaced s p ≡ false) where
+  pub observers_faulty_lem : p ≡ 2 → orphans s 1 2 ≡ faulty_part s p
+  unfolding faulty_part
+  observers_faulty_lem is = rw (e, ne_eqb p 7 (λ q. omega (arith, q, is)), eq-eqb p 2 is) (sym (or_none (orphans s 1 2)))
 
 -- A record lies in the bytes that the records have together.
 pub record_inside : (b : List ℕ) (p k : ℕ) → k < records_in b p → record_bytes p * k + record_bytes p ≤ length b

@@ -1,8 +1,8 @@
 -- What a walk from a formula has gathered tells its data, or the lowest row that itself holds a data variable. The walk began with none. Assumes nothing.
 use Prim.Native.Nat.{ℕ, ◌+◌, ◌≤◌, ◌<◌}
 use Rattle.std.proofs.Common.{Option, Some, None, unwrap_or}
-use mathlib.Core.Path.{◌≡◌, ap}
-use mathlib.Core.Bool.{false}
+use mathlib.Core.Path.{◌≡◌, refl, sym, ap}
+use mathlib.Core.Bool.{Bool, true, false, cond}
 use mathlib.Core.Logic.{inr, ⊎_elim}
 use mathlib.Core.List.{List}
 use native.Mathlib.Omega.{arith}
@@ -10,9 +10,9 @@ use Rattle.definition.specs.04-Checks.{accepts, refuses}
 use Rattle.definition.proofs.StrayLaws.{reached_below, some_stray, stray_has, stray_row_lem}
 use Rattle.definition.proofs.Tests.{never_true}
 use Rattle.definition.specs.13-Formulas.{data_variable, has}
-use Rattle.definition.specs.14-Book.{tree_in, book}
+use Rattle.definition.specs.14-Book.{tree_in, book, stray_row}
 use Rattle.definition.specs.41-Occurrences.{Stray, StrayIs}
-use Rattle.formula_book.specs.DataAnswers.{stray_or, by_stray}
+use Rattle.formula_book.specs.DataAnswers.{stray, clear, stray_or, by_stray}
 use Rattle.formula_book.specs.GoodRows.{GoodRow}
 use Rattle.formula_walks.specs.DataWalk.{Lowered}
 
@@ -47,3 +47,35 @@ module _ {s : List ℕ} {row : ℕ} {low : Option ℕ} (g : GoodRow s row) (l : 
       let none : has data_variable 0 (tree_in (book s) row) ≡ false =
       never_true _ (λ h. let w = some_stray (row + 1) row (omega arith) g h in let m = l.least w.0 (inr w.1) in absurd (rw is_none at m)) in
       rw (none, e)
+
+-- What is told says whether a data variable stands in the formula, and the other way round.
+not_both_told : {A : Type 0} {p : ℕ} {x : A} → stray p ≡ clear x → ⊥
+not_both_told e = let z : ◌≡◌ {A = ℕ} 0 1 = cc in omega arith
+
+module _ {A : Type 0} (s : List ℕ) (row : ℕ) (answer : A) where
+  abbrev HasVariable : Bool → Type 0
+  HasVariable v = has data_variable 0 (tree_in (book s) row) ≡ v
+
+  pub is_stray : {p : ℕ} → HasVariable true → p ≡ stray_row s row → stray p ≡ stray_or s row answer
+  unfolding stray_or
+  is_stray e h = rw (e, h)
+
+  pub is_clear : {x : A} → HasVariable false → x ≡ answer → clear x ≡ stray_or s row answer
+  unfolding stray_or
+  is_clear e h = rw (e, h)
+
+  pub stray_is : {p : ℕ} → stray p ≡ stray_or s row answer → HasVariable true × (p ≡ stray_row s row)
+  unfolding stray_or
+  stray_is {p} e = go (has data_variable 0 (tree_in (book s) row)) refl e
+    where
+      go : (v : Bool) → HasVariable v → stray p ≡ cond v (stray (stray_row s row)) (clear answer) → HasVariable true × (p ≡ stray_row s row)
+      go true h q = (h, cc)
+      go false h q = absurd (not_both_told q)
+
+  pub clear_is : {x : A} → clear x ≡ stray_or s row answer → HasVariable false × (x ≡ answer)
+  unfolding stray_or
+  clear_is {x} e = go (has data_variable 0 (tree_in (book s) row)) refl e
+    where
+      go : (v : Bool) → HasVariable v → clear x ≡ cond v (stray (stray_row s row)) (clear answer) → HasVariable false × (x ≡ answer)
+      go true h q = absurd (not_both_told (sym q))
+      go false h q = (h, cc)

@@ -1,4 +1,4 @@
--- What callers of this library may cite, and they cite this file alone: what `admit`'s answer says of the rows, which sizes the column of `admit_into` holds, a row's fields from its tree and the tree from its fields, one number for a tree, and what a row's kind says of its tree. Assumes nothing.
+-- What callers of this library may cite, and they cite this file alone: what `admit`'s answer says of the rows, which sizes the column of `admit_into` holds, a row's fields from its tree and the tree from its fields, one number for a tree, what a row's kind says of its tree, and what each answer about a formula says of it. Assumes nothing.
 use Prim.Native.Nat.{ℕ, ◌≤◌, ◌<◌}
 use mathlib.Core.Path.{◌≡◌, ap}
 use mathlib.Core.Bool.{false}
@@ -24,6 +24,7 @@ use Rattle.formula_rows.proofs.RowKinds.{shape_policy, shape_action, shape_predi
 use Rattle.formula_book.proofs.RowComparison.{same_as_row}
 pub use Rattle.formula_book.proofs.RowComparison.{Proper, other_kind, predicate_proper, owns_proper, says_proper, and_proper, implies_proper, each_use_proper, once_proper, owns_kind, says_kind, and_kind, for_all_kind, implies_kind, communicates_kind, creates_kind, user_action_kind, body_policy, put_policy}
 pub use Rattle.formula_walks.proofs.WalkLaws.{bound_present, free_present, parameter_present, term_present}
+pub use Rattle.formula_book.proofs.DataAnswerLaws.{is_stray, is_clear, stray_is, clear_is}
 pub use Rattle.formula_book.proofs.WalkedRows.{policy_here, action_here, good_inside}
 pub use Rattle.definition.proofs.Trees.{beyond, number_inside}
 pub use Rattle.definition.proofs.SizeColumns.{tells_sizes, size_is_rows, sizes_fit}

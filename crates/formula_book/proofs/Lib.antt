@@ -1,5 +1,6 @@
 -- Laws of the formula book. Callers cite Laws alone.
 pub mod RowTreeLaws
+pub mod TermFields
 pub mod WalkedRows
 pub mod DataAnswerLaws
 pub mod SizeLaws

@@ -20,7 +20,7 @@ use Rattle.definition.specs.04-Checks.{accepts, refuses, try, each}
 use Rattle.definition.specs.13-Formulas.{nodes}
 use Rattle.definition.specs.14-Book.{row_at, tree_in, book, book_rows, fields_fit, bad_formula}
 use Rattle.formula_rows.specs.Nodes.{Node, node_of, nodes_of}
-use Rattle.formula_book.specs.Sizes.{SizesHeld, SizesTold, ChildrenHeld, size_at}
+use Rattle.formula_book.specs.Sizes.{SizesHeld, SizesTold, GoodBelow, ChildrenHeld, size_at}
 use Rattle.definition.proofs.Trees.{fit_shape}
 use Rattle.formula_walks.proofs.WalkLaws.{Children, of_leaf, of_said, of_pair, of_body, of_duty, shape_children}
 use Rattle.formula_rows.proofs.RowKinds.{shape_nodes}
@@ -28,6 +28,9 @@ use Rattle.formula_rows.proofs.RowKinds.{shape_nodes}
 -- the rows whose sizes are held are good
 pub good_row : {s sizes : List ℕ} {n : ℕ} → SizesHeld s sizes n → (j : ℕ) → j < n → bad_formula s (book s) j ≡ false
 good_row held j lt = (held j lt).row.good j (omega arith)
+
+pub good_below : {s sizes : List ℕ} {n : ℕ} → SizesHeld s sizes n → n < book_rows s → n < 1024 → GoodBelow s n
+good_below held inside few = record { inside = omega arith; few = omega arith; good = good_row held }
 
 -- a row whose fields fit
 module _ (s : List ℕ) (k : ℕ) (sizes : List ℕ) (held : SizesHeld s sizes k) (inside : k < book_rows s) (fit : fields_fit (book s) k (row_at s k) ≡ true) where

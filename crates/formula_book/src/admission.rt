@@ -21,7 +21,8 @@ fn node_size(book: &[u8], sizes: &[u8], node: Node) -> usize
 {
     match node {
         Node::Leaf(..) | Node::None => 1,
-        Node::Said(_, x, _) | Node::Body(x) => size_of(book, sizes, x as usize) + 1,
+        Node::Said(_, x, _) => size_of(book, sizes, x as usize) + 1,
+        Node::Body(x) => size_of(book, sizes, x as usize) + 1,
         Node::Pair(x, y) | Node::Duty(x, y) => {
             size_of(book, sizes, x as usize) + size_of(book, sizes, y as usize) + 1
         }

@@ -13,10 +13,16 @@ use formula_walks::policy_has;
 fn terms_first(fields: &[u16]) -> bool
     ensures { result ≡ terms_first fields.now }
 {
-    fields
-        .iter()
-        .skip_while(|t| is_term(**t))
-        .all(|t| *t == Term::ABSENT)
+    // A loop with a mark, since a chain of adaptors takes twice the time on a book of predicates.
+    let mut ended = false;
+    for t in fields {
+        if *t == Term::ABSENT {
+            ended = true;
+        } else if ended || !is_term(*t) {
+            return false;
+        }
+    }
+    true
 }
 
 // What a child has to be.
@@ -32,11 +38,10 @@ fn child_below(book: &[u8], k: usize, n: u16, child: Child) -> bool
     ensures { result ≡ (ltb n k && is_child child (tree_in (trees book.now) n)) }
 {
     let lower = n as usize;
-    lower < k
-        && match child {
-            Child::Policy => row_at(book, lower).is_policy(),
-            Child::Action => !row_at(book, lower).is_policy(),
-        }
+    match child {
+        Child::Policy => lower < k && row_at(book, lower).is_policy(),
+        Child::Action => lower < k && !row_at(book, lower).is_policy(),
+    }
 }
 
 fn agent_and_data(row: Row) -> bool

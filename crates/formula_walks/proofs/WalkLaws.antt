@@ -135,6 +135,15 @@ module _ {is : Formula → Bool} {s : List ℕ} {row depth : ℕ} (g : WalkRow i
   leaf_read q (node.Duty x y) e n a other = absurd (in_action a (ap node_of (sym e) ∙ sym n))
   leaf_read q node.None e n a other = absurd (in_action a (ap node_of (sym e) ∙ sym n))
 
+  -- the node of an action that the code has read, by its kind
+  pub action_read : (q : rows.Row) → row_meant q ≡ row_at s row → is_action (tree_in (book s) row) ≡ true → (q.kind ≡ 8 → ⊥) → node_of (row_at s row) ≡ node_meant (node.Leaf q.x q.y q.z)
+  unfolding row_meant node_meant
+  action_read q e a other = rw (← e) (⊎_elim (λ h. h) (λ h. absurd (other h)) (shape_action (rw (← e) at shape) a))
+
+  pub said_read : (q : rows.Row) → row_meant q ≡ row_at s row → q.kind ≡ 8 → node_of (row_at s row) ≡ node_meant (node.Said q.x q.y q.z)
+  unfolding row_meant node_meant
+  said_read q e kind = rw (← e) (action_said (row_meant q) kind)
+
   -- a walk may go on to a child
   pub go_on : {js : Formula → Bool} {n : ℕ} (d : ℕ) → d ≤ depth + 1 → Below js (book s) row n → WalkRow js s n d
   go_on d le b =

@@ -6,7 +6,7 @@ ghost use Rattle.definition.specs.14-Book.{tree_in, book as trees};
 ghost use Rattle.formula_walks.specs.WalkRows.{WalkRow, Present};
 ghost use Rattle.formula_rows.specs.Meanings.{sought_meant};
 
-use formula_rows::{Node, Sought, is_sought, row_at};
+use formula_rows::{Kind, Node, Sought, is_sought, row_at};
 
 // One of the terms.
 fn terms_have(w: Sought, depth: usize, terms: &[u16]) -> bool
@@ -55,17 +55,18 @@ pub fn policy_has(book: &[u8], w: Sought, depth: usize, row: usize) -> bool
 }
 
 // Action `row`, which stands under `depth` for-alls: a communication holds a policy, and any other action has terms alone.
+// It is one function with the policy walk in the program: a call less at each level of a formula nested through actions.
 #[cycle(action_has_policy_has)]
+#[inline(always)]
 pub fn action_has(book: &[u8], w: Sought, depth: usize, row: usize) -> bool
     requires walk_row { WalkRow is_action book.now row depth }
     requires present { Present (sought_meant w) }
     ensures { result ≡ has (sought_meant w) depth (tree_in (trees book.now) row) }
 {
     let own = row_at(book, row);
-    match Node::from(own) {
-        Node::Said(x, y, z) => {
-            terms_have(w, depth, &[x, z]) || policy_has(book, w, depth, y as usize)
-        }
-        _ => terms_have(w, depth, &[own.x, own.y, own.z]),
+    if own.is(Kind::Communicates) {
+        terms_have(w, depth, &[own.x, own.z]) || policy_has(book, w, depth, own.y as usize)
+    } else {
+        terms_have(w, depth, &[own.x, own.y, own.z])
     }
 }

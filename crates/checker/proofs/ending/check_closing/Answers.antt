@@ -29,7 +29,7 @@ unused_passed :
 unfolding unused_step state_of last_step case_of
 unused_passed c d e =
     let test = unused_step (state_of c.args.left.now d e) in
-    c.in_ok-each.ensures test (λ k b below post. search rules) ∙ ap (λ n. try (each 20 (n - 1) test)) c.count_of-last.ensures.0
+    c.in_ok-each.ensures test (λ k b below post. search rules) ∙ ap (λ n. try (each 20 n test)) (omega (arith, c.count_of-last.ensures.0))
 
 -- Check 21, by the labels that the last step leaves open.
 open_labels_are :
@@ -55,7 +55,7 @@ unfolding closing_checks unused_step state_of last_step case_of
 returns-in_err-each c d e =
     let is : c.from_residual.result ≡ Err c.in_err-each.field-0.0 = search rules in
     let test = unused_step (state_of c.args.left.now d e) in
-    rw is (checks_stop _ _ _ (c.in_err-each.ensures test (λ k b below post. search rules) ∙ ap (λ n. try (each 20 (n - 1) test)) c.count_of-last.ensures.0))
+    rw is (checks_stop _ _ _ (c.in_err-each.ensures test (λ k b below post. search rules) ∙ ap (λ n. try (each 20 n test)) (omega (arith, c.count_of-last.ensures.0))))
 
 pub each-requires-2-clause-fits : goal.each-requires-2-clause-fits
 each-requires-2-clause-fits c = omega (arith, few_labels (goal.at.each-requires-2-clause-fits c).After-count_of-labels)

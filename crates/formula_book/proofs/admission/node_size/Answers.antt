@@ -12,9 +12,13 @@ pub size_of-requires-in-Pair : goal.size_of-requires-in-Pair
 unfolding nodes_of node_meant
 size_of-requires-in-Pair c = search rules
 
-pub size_of-requires-in-Said : goal.size_of-requires-in-Said
+pub size_of-requires-in-Body : goal.size_of-requires-in-Body
 unfolding nodes_of node_meant
-size_of-requires-in-Said c = search rules
+size_of-requires-in-Body c = search rules
+
+pub size_of-requires-in-Pair-2 : goal.size_of-requires-in-Pair-2
+unfolding nodes_of node_meant
+size_of-requires-in-Pair-2 c = search rules
 
 pub returns-in-Leaf : goal.returns-in-Leaf
 unfolding nodes_of node_meant
@@ -27,3 +31,7 @@ returns-in-Pair c = search rules
 pub returns-in-Said : goal.returns-in-Said
 unfolding nodes_of node_meant
 returns-in-Said c = search rules
+
+pub returns-in-Body : goal.returns-in-Body
+unfolding nodes_of node_meant
+returns-in-Body c = search rules

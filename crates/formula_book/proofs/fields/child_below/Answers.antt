@@ -11,14 +11,14 @@ pub row_at-requires : goal.row_at-requires
 unfolding book_rows
 row_at-requires c = let p = c.requires.inside in omega arith
 
-pub row_at-requires-in-Action : goal.row_at-requires-in-Action
+pub row_at-requires-then-lower-k-2 : goal.row_at-requires-then-lower-k-2
 unfolding book_rows
-row_at-requires-in-Action c = let p = c.requires.inside in omega arith
+row_at-requires-then-lower-k-2 c = let p = c.requires.inside in omega arith
 
-pub returns-in-Policy : goal.returns-in-Policy
+pub returns-then-lower-k : goal.returns-then-lower-k
 unfolding is_child policy_below
-returns-in-Policy c = rw c.in-Policy.is (c.is_policy.ensures ∙ policy_below_lem _ _ c.requires _ _ c.if-lower-k.true c.row_at.ensures)
+returns-then-lower-k c = rw c.in-Policy.is (c.is_policy.ensures ∙ policy_below_lem _ _ c.requires _ _ c.if-lower-k.true c.row_at.ensures)
 
-pub returns-in-Action : goal.returns-in-Action
+pub returns-then-lower-k-2 : goal.returns-then-lower-k-2
 unfolding is_child action_below
-returns-in-Action c = rw c.in-Action.is (ap not c.is_policy-in-Action.ensures ∙ action_below_lem _ _ c.requires _ _ c.if-lower-k.true c.row_at-in-Action.ensures)
+returns-then-lower-k-2 c = rw c.in-Action.is (ap not c.is_policy-then-lower-k-2.ensures ∙ action_below_lem _ _ c.requires _ _ c.if-lower-k-2.true c.row_at-then-lower-k-2.ensures)

@@ -1,46 +1,46 @@
--- `terms_first` meets its contract: behind the terms at the front every field is absent. Assumes nothing.
-use Rattle.std.proofs.Common.{rules, List, ℕ, Bool, true, false, ◌∷◌, [], drop}
-use mathlib.Core.Path.{◌≡◌, refl, ap, ◌∙◌}
-use mathlib.Core.Bool.{◌&&◌}
+-- `terms_first` meets its contract: field by field it goes on with what is left. Assumes nothing.
+use Rattle.std.proofs.Common.{ℕ, ◌≡◌, ◌+◌, ◌∷◌, Bool, true, false, length, slice_index_or}
+use Rattle.std.proofs.lemmas.List.{drop_more}
+use Rattle.std.proofs.Math.Seq.{drop-length}
+use mathlib.Core.Path.{refl, sym, ap, ◌∙◌}
+use mathlib.Core.Logic.{inl, inr}
 use native.Mathlib.Omega.{arith}
-use Prim.Native.Nat.{◌+◌, suc}
-use lib.Dec.{eqb}
-use borrow.Author.Tests.{tests}
-use Rattle.std.proofs.lemmas.Iterator.{YieldsList-from_slice}
-use Rattle.std.proofs.lemmas.Iterator.Adapters.{YieldsList-from_skip_while}
-use Rattle.std.proofs.lemmas.Iterator.Consumers.{YieldsList-at}
-use Rattle.std.proofs.lemmas.Iterator.Search.{all_from_yields_List}
-use Rattle.std.specs.List.{list_all, prefix_len}
-use Rattle.definition.specs.01-Words.{absent}
-use Rattle.definition.specs.12-Terms.{class_of, is_term}
-use Rattle.definition.specs.14-Book.{terms_first, all_absent}
+use lib.ListN.{drop}
+use Rattle.definition.specs.14-Book.{terms_first}
+use Rattle.formula_book.proofs.TermFields.{left, left_absent, left_term, left_other, left_none}
 use Rattle.formula_book.proofs.fields.terms_first.Goals as goal
+use Rattle.formula_book.proofs.fields.terms_first.Goals.{then-t, else-t+else-ended+else-not-is_term, then-ended-via-then-ended, then-ended-via-else-ended+then-not-is_term}
 
--- Every field is absent.
-absent_lem : (ts : List ℕ) → list_all (λ t. eqb t absent) ts ≡ all_absent ts
-unfolding all_absent
-absent_lem [] = refl
-absent_lem (t ∷ ts) = ap (λ b. eqb t absent && b) (absent_lem ts)
+pub loop-t-init : goal.loop-t-init
+unfolding left
+loop-t-init c = refl
 
--- What stands behind the terms at the front is absent.
-abbrev Behind : List ℕ → Bool
-Behind ts = list_all (λ t. eqb t absent) (drop (prefix_len (λ t. is_term (class_of t)) ts) ts)
+pub returns-then-ended : goal.returns-then-ended
+returns-then-ended c =
+    let l = c.loop-t in
+    let xs = c.args.fields.now in
+    let here : terms_first xs ≡ left l.ended (slice_index_or xs l.t-index 0 ∷ drop (l.t-index + 1) xs) = l.invariant ∙ ap (left l.ended) (drop_more xs l.t-index 0 c.loop-t-test.true) in
+    sym (here ∙ left_other l.ended _ _ c.if-t.false (elim c.then-ended.branch [
+      | then-ended-via-then-ended w ↦ inl w.if-ended.true
+      | then-ended-via-else-ended+then-not-is_term w ↦ inr (sym w.is_term.ensures ∙ w.if-not-is_term.true)
+    ]))
 
-first_lem : (ts : List ℕ) → Behind ts ≡ terms_first ts
-unfolding terms_first
-first_lem [] = refl
-first_lem (t ∷ ts) = go (is_term (class_of t)) refl (first_lem ts)
-  where
-    go : (b : Bool) → is_term (class_of t) ≡ b → Behind ts ≡ terms_first ts → Behind (t ∷ ts) ≡ terms_first (t ∷ ts)
-    go true e rest =
-        let one : 1 + prefix_len (λ u. is_term (class_of u)) ts ≡ suc (prefix_len (λ u. is_term (class_of u)) ts) = omega arith in
-        rw (e, one) rest
-    go false e rest = rw e (absent_lem (t ∷ ts))
+pub loop-t-preserved : goal.loop-t-preserved
+loop-t-preserved c =
+    let l = c.loop-t in
+    let xs = c.args.fields.now in
+    let rest = drop (l.t-index + 1) xs in
+    let here : terms_first xs ≡ left l.ended (slice_index_or xs l.t-index 0 ∷ rest) = l.invariant ∙ ap (left l.ended) (drop_more xs l.t-index 0 c.loop-t-test.true) in
+    elim c.if-t.branch [
+      | then-t w ↦ here ∙ left_absent l.ended _ rest w.if-t.true ∙ sym (ap (λ b. left b rest) w.ended-is)
+      | else-t+else-ended+else-not-is_term w ↦
+          here ∙ ap (λ b. left b (slice_index_or xs l.t-index 0 ∷ rest)) w.if-ended.false ∙ left_term _ rest (sym w.is_term.ensures ∙ w.if-not-is_term.false)
+          ∙ sym (ap (λ b. left b rest) (w.ended-is ∙ w.if-ended.false))
+    ]
 
 pub returns : goal.returns
 returns c =
+    let l = c.loop-t in
     let xs = c.args.fields.now in
-    all_from_yields_List (λ t. eqb t absent) _ _ _ c.all.ensures.ran
-    (YieldsList-from_skip_while _ _ _ (λ t. is_term (class_of t)) _ (λ x b q k. search rules) (YieldsList-at c.skip_while.ensures.source (YieldsList-from_slice xs (cc))) c.skip_while.ensures.closure c.skip_while.ensures.done_skipping)
-    (λ x b q k. search (rules, tests))
-    ∙ first_lem xs
+    let past : l.t-index ≡ length xs = omega (arith, c.loop-t-test.false, c.loop-t.auto.t-index-end) in
+    sym (l.invariant ∙ ap (λ (i : ℕ). left l.ended (drop i xs)) past ∙ ap (left l.ended) (drop-length xs) ∙ left_none l.ended)

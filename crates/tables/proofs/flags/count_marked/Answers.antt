@@ -14,4 +14,4 @@ pub returns : goal.returns
 returns c = let a = c.args in
     let counted : c.count.result ≡ count_by (λ (b : Bool). b) (take a.n a.flags.now) = search rules in
     let is = counted ∙ marked_count a.flags.now a.n c.requires in
-    (is, omega (arith, members_length (marks a.flags.now) a.n 0))
+    (omega (arith, is), omega (arith, is, members_length (marks a.flags.now) a.n 0))
